@@ -18,14 +18,14 @@ use Rattle.jc_effects.specs.Laws.{IsNextTree, IsEffect}
 use Rattle.jc_effects.proofs.ElsewhereLemmas.{changes_of}
 
 -- the operation's identifier is nowhere before it
-new_id : (o : Op) (c d : Context) → IsNextTree o c d → (P : List Tagged) (k : Key) (i : Id) → same_id i o.id ≡ true → has_id i (ids_at k (seen P c)) ≡ false
+pub new_id : (o : Op) (c d : Context) → IsNextTree o c d → (P : List Tagged) (k : Key) (i : Id) → same_id i o.id ≡ true → has_id i (ids_at k (seen P c)) ≡ false
 new_id o c d x P k i e = x.means.ids P k i ∙ go (op_of i x.set) (subst (λ j. op_of j x.set ≡ None) (sym (same_id-true i o.id e)) x.next.outside)
   where
     go : (p : Option Op) → p ≡ None → (holds_of (λ q. touches q P k) p && not (is_cleared x.set P k i)) ≡ false
     go None h = refl
     go (Some q) h = cc
 
-new_value : (o : Op) (c d : Context) → IsNextTree o c d → (P : List Tagged) (k : Key) (i : Id) → same_id i o.id ≡ true → value_seen_at i k (seen P c) ≡ None
+pub new_value : (o : Op) (c d : Context) → IsNextTree o c d → (P : List Tagged) (k : Key) (i : Id) → same_id i o.id ≡ true → value_seen_at i k (seen P c) ≡ None
 new_value o c d x P k i e = x.means.values P k i ∙ go (op_of i x.set) (is_cleared x.set P k i || some_op (λ a. overwrites a P k && has_id i a.deps) x.set) (subst (λ j. op_of j x.set ≡ None) (sym (same_id-true i o.id e)) x.next.outside)
   where
     go : (p : Option Op) (b : Bool) → p ≡ None → cond b None (written_of p P k) ≡ None

@@ -32,7 +32,7 @@ use Rattle.jc_effects.specs.Difference.{IsSameAt}
 use Rattle.jc_effects.specs.Laws.{IsNextTree, IsAway}
 
 -- an insert's path ends in a list
-insert_listed : (S : List Op) (o : Op) (t d : Context) → Means S t → IsAnswered (Operate t o) (ToContext d) → is_insert o.mutation ≡ true → list_at false o.cursor.path ≡ true
+pub insert_listed : (S : List Op) (o : Op) (t d : Context) → Means S t → IsAnswered (Operate t o) (ToContext d) → is_insert o.mutation ≡ true → list_at false o.cursor.path ≡ true
 insert_listed S o t d m a is = go (list_at false o.cursor.path) (m.links o.cursor.path)
   where
     go : (b : Bool) → LinksOf b S o.cursor.path (seen o.cursor.path t) → b ≡ true
@@ -96,8 +96,9 @@ links_kept true true X h f g = cc
 links_kept true false X h f g = g refl
 links_kept false s X h f g = f refl
 
-pub elsewhere : (o : Op) (c d : Context) → IsNextTree o c d → (P : List Tagged) (k : Key) → IsAway o P k → (is_insert o.mutation && same_path o.cursor.path P) ≡ false → IsSameAt k (seen P c) (seen P d)
-elsewhere o c d x P k away list =
+-- away from an operation, where the link is the same
+pub same_but_link : (o : Op) (c d : Context) → IsNextTree o c d → (P : List Tagged) (k : Key) → IsAway o P k → next k (seen P d) ≡ next k (seen P c) → IsSameAt k (seen P c) (seen P d)
+same_but_link o c d x P k away link =
     let m : Changes o.id o.deps o.cursor.path o.cursor.last o.mutation c d = changes_of o c d x in
     record {
       maps = m.tags P (MapT k) ∙ no_more (has_tag (MapT k) (seen P c)) _ away.no_map;
@@ -105,5 +106,11 @@ elsewhere o c d x P k away list =
       registers = m.tags P (RegT k) ∙ no_more (has_tag (RegT k) (seen P c)) _ away.no_register;
       ids = λ i. m.ids P k i ∙ kept (same_id i o.id) _ (has_id i (ids_at k (seen P c))) _ (has_id i o.deps) away.untouched away.uncleared;
       values = λ i. m.values P k i ∙ value_kept (same_id i o.id) _ _ (has_id i o.deps) (written_by o P k) (value_seen_at i k (seen P c)) (unwritten o P k away.untouched) away.uncleared (no_value (not (is_insert o.mutation)) (written_by o P k) (unwritten o P k away.untouched));
-      links = links_kept (is_insert o.mutation) (same_path o.cursor.path P) (next k (seen P d) ≡ next k (seen P c)) list (λ h. m.links h P k) (λ h. m.elsewhere P k h);
+      links = link;
     }
+
+pub elsewhere : (o : Op) (c d : Context) → IsNextTree o c d → (P : List Tagged) (k : Key) → IsAway o P k → (is_insert o.mutation && same_path o.cursor.path P) ≡ false → IsSameAt k (seen P c) (seen P d)
+elsewhere o c d x P k away list =
+    let m : Changes o.id o.deps o.cursor.path o.cursor.last o.mutation c d = changes_of o c d x in
+    same_but_link o c d x P k away
+    (links_kept (is_insert o.mutation) (same_path o.cursor.path P) (next k (seen P d) ≡ next k (seen P c)) list (λ h. m.links h P k) (λ h. m.elsewhere P k h))

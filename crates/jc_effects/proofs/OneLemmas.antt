@@ -27,7 +27,7 @@ use Rattle.jc_effects.specs.Difference.{OwnDifference, same_link, values_without
 
 -- ---- where nothing differs, nothing differs of a key's own entries
 
-without_none : (xs ys : List Id) → ((i : Id) → has_id i xs ≡ true → has_id i ys ≡ true) → is_nothing (without xs ys) ≡ true
+pub without_none : (xs ys : List Id) → ((i : Id) → has_id i xs ≡ true → has_id i ys ≡ true) → is_nothing (without xs ys) ≡ true
 without_none [] ys h = refl
 without_none (x ∷ xs) ys h = go (has_id x ys) refl (without_none xs ys (λ i e. h i (or_right (same_id i x) (has_id i xs) e)))
   where

@@ -56,7 +56,7 @@ own_seen k o = record {
 
 abbrev pub differences_of : Effects → Differences
 differences_of Nothing = no_difference
-differences_of (Place' k o m l r) = difference k (own_seen k o) (differences_of m) (differences_of l) (differences_of r)
+differences_of (Place' k o p m q l s r) = difference k (own_seen k o) (differences_of m) (differences_of l) (differences_of r)
 
 -- ---- reading
 
@@ -100,9 +100,9 @@ pub record AreFound (was now : Entries) (among : Candidates) (own : OwnEffects) 
 -- ---- walking
 
 -- The stores' names for the context at a path, in the one tree and in the other.
-pub record AreContexts (old_names new_names : Place → List Tagged → Type 0) (old new : Tree) (at : List Tagged) (x : Contexts) : Type 0 where
-  pub old : IsNamed old_names old at x.old
-  pub new : IsNamed new_names new at x.new
+pub record AreContexts (names others : Place → List Tagged → Type 0) (before after : Tree) (at : List Tagged) (x : Contexts) : Type 0 where
+  pub old : IsNamed names before at x.old
+  pub new : IsNamed others after at x.new
 
 -- At the key, identifiers and values may have gone, and all else is the same.
 pub record OnlyLosesAt (k : Key) (c d : Context) : Type 0 where

@@ -1,6 +1,6 @@
 //! The places that differ by an operation: along its path, at its target and below it.
 
-ghost use Rattle.std.specs.Prelude.{◌≡◌, ◌≢◌, ◌≤◌, ◌++◌, ◌∷◌, [], List, length, take, true, false, Some, None, IfOk, OnOk};
+ghost use Rattle.std.specs.Prelude.{◌≡◌, ◌≢◌, ◌≤◌, ◌++◌, ◌∷◌, [], List, cond, length, take, true, false, Some, None, IfOk, OnOk};
 ghost use Rattle.std.specs.declared.cmp.Ordering.TheVariants.{Less};
 ghost use Rattle.jc_rules.specs.declared.id.Id.{Id as AnyId};
 ghost use Rattle.jc_rules.specs.declared.key.Key.{Key as AnyKey};
@@ -61,6 +61,20 @@ fn is_clearing(mutation: &Mutation) -> bool
     }
 }
 
+/// The identifiers, or none.
+fn ids_if(wanted: bool, ids: &[Id]) -> &[Id]
+    ensures { result.now ≡ cond wanted ids.now [] }
+{
+    if wanted { ids } else { &[] }
+}
+
+/// The pairs, or none.
+fn pairs_if(wanted: bool, pairs: &[(Id, Value)]) -> &[(Id, Value)]
+    ensures { result.now ≡ cond wanted pairs.now [] }
+{
+    if wanted { pairs } else { &[] }
+}
+
 /// What differs of the entries at a key, where the operation may have changed no more than is said.
 fn own_at<S: TreeStore>(
     change: &Change<'_, S>,
@@ -80,10 +94,10 @@ fn own_at<S: TreeStore>(
     let now = entries_at(change.new, contexts.new, at, key);
     let id = [change.op.id];
     let candidates = Candidates {
-        gained: if may.gain { &id } else { &[] },
-        lost: if may.clear { was.ids } else { &[] },
-        taken: if may.values { was.pairs } else { &[] },
-        written: if may.values { now.pairs } else { &[] },
+        gained: ids_if(may.gain, &id),
+        lost: ids_if(may.clear, was.ids),
+        taken: pairs_if(may.values, was.pairs),
+        written: pairs_if(may.values, now.pairs),
     };
     own_between(change.alloc, &was, &now, candidates)
 }

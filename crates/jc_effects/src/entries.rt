@@ -1,10 +1,11 @@
 //! What stands under a key of a context that may be missing: then it is what a descent would make there.
 
-ghost use Rattle.std.specs.Prelude.{◌≡◌, ◌++◌, ◌∷◌, []};
+ghost use Rattle.std.specs.Prelude.{◌≡◌, ◌++◌, ◌∷◌, [], option_copied};
 ghost use Rattle.jc_rules.specs.declared.key.Tagged.TheVariants.{MapT, ListT, RegT};
 ghost use Rattle.jc_rules.specs.Context.{next as next_of};
 ghost use Rattle.jc_rules.specs.Ids.{AreRising};
 ghost use Rattle.jc_rules.specs.WellFormed.{IsWellFormedRegister};
+ghost use Rattle.jc_apply.specs.Fits.{made_under};
 ghost use Rattle.jc_tree.specs.Tree.{or_no_entries};
 ghost use Rattle.jc_meaning.specs.Seen.{seen, ids_at, reg_at, has_tag};
 ghost use Rattle.jc_effects.specs.Parts.{IsNamed, AreEntries};
@@ -86,9 +87,14 @@ fn tags_in<S: TreeStore>(store: &S, place: Option<Place>, at: &[Tagged], key: &K
     }
 }
 
-/// Whether the key is the head, and the path ends in a list.
-fn is_new_head(at: &[Tagged], key: &Key) -> bool {
-    matches!((at.last(), key), (Some(Tagged::ListT(_)), Key::Head))
+/// What follows the key in a new context under the tagged key: only the head of a new list is linked.
+fn new_link(parent: Option<&Tagged>, key: &Key) -> Option<Next>
+    ensures { result ≡ next_of key.now (made_under (option_copied parent.entry)) }
+{
+    match (parent, key) {
+        (Some(Tagged::ListT(_)), Key::Head) => Some(Next::Tail),
+        _ => None,
+    }
 }
 
 /// What follows the key. In a new list the head is followed by the end.
@@ -103,8 +109,7 @@ pub(crate) fn link_in<S: TreeStore>(
 {
     match place {
         Some(place) => store.step_by(place, at, key, NO_HINT).next,
-        None if is_new_head(at, key) => Some(Next::Tail),
-        None => None,
+        None => new_link(at.last(), key),
     }
 }
 

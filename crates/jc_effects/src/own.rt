@@ -149,7 +149,7 @@ pub(crate) fn own_between(
     requires now_rising { AreRising now.now.ids.now }
     requires was_formed { IsWellFormedRegister was.now.pairs.now }
     requires now_formed { IsWellFormedRegister now.now.pairs.now }
-    ensures { IfOk result (λ own. AreFound was.now now.now candidates own) }
+    ensures { IfOk result (λ own. AreFound was.now now.now candidates.entry own) }
 {
     Ok(OwnEffects {
         gained: ids_without(alloc, candidates.gained, was.ids)?,

@@ -1,14 +1,13 @@
 //! Writes the places that differ as JSON.
 
 ghost use Rattle.std.specs.Prelude.{◌≡◌, ◌++◌, ◌∷◌, [], codes, cond, map, OnOk};
-ghost use Rattle.json.specs.Json.{object, member, string, no_members};
+ghost use Rattle.json.specs.Json.{array};
 ghost use Rattle.json.specs.Token as T;
-ghost use Rattle.json.specs.Tree.{json_tokens, items_tokens};
+ghost use Rattle.json.specs.Tree.{json_tokens};
 ghost use Rattle.jc_rules.specs.declared.key.Key.{Key as AnyKey};
-ghost use Rattle.jc_json.specs.Json.{id_text, key_text};
 ghost use Rattle.jc_view.specs.Parts.{Gains};
 ghost use Rattle.jc_effects.specs.Parts.{own_seen, differences_of, tags_made, labelled_tokens, items_front, first_tokens, front_members, middle_members, back_members};
-ghost use Rattle.jc_effects.specs.EffectsJson.{plain_value, id_json, some_ids, some_pairs, some_items, some_tags, link_json, some_links, if_shown, id_and_value, place_items, effects_json};
+ghost use Rattle.jc_effects.specs.EffectsJson.{as_items, plain_value, id_json, some_ids, some_pairs, some_items, some_tags, link_json, some_links, if_shown, id_and_value, place_items, effects_json};
 
 use crate::effects::Effects;
 use crate::own::{OwnEffects, Tags};
@@ -64,6 +63,22 @@ fn write_id(alloc: Global, names: &[Text], id: Id, out: &mut Writer) -> Result<(
     out.string(text.as_str())
 }
 
+/// Writes a list of identifiers.
+fn write_id_list(
+    alloc: Global,
+    names: &[Text],
+    ids: &[Id],
+    out: &mut Writer,
+) -> Result<(), AllocError>
+    ensures { OnOk result (Gains out.old out.new (json_tokens (array (as_items (map (id_json names.now) ids.now))))) }
+{
+    out.begin_array()?;
+    for id in ids {
+        write_id(alloc, names, *id, out)?;
+    }
+    out.end_array()
+}
+
 /// Writes a list of identifiers as a member, unless it is empty.
 fn write_ids(
     alloc: Global,
@@ -78,11 +93,7 @@ fn write_ids(
         return Ok(());
     }
     out.key(name)?;
-    out.begin_array()?;
-    for id in ids {
-        write_id(alloc, names, *id, out)?;
-    }
-    out.end_array()
+    write_id_list(alloc, names, ids, out)
 }
 
 /// Writes a pair: the identifier's text, then the value.
@@ -101,6 +112,23 @@ fn write_pair(
     out.end_array()
 }
 
+/// Writes a list of pairs.
+fn write_pair_list(
+    alloc: Global,
+    names: &[Text],
+    pairs: &[(Id, Value)],
+    out: &mut Writer,
+) -> Result<(), AllocError>
+    ensures { OnOk result (Gains out.old out.new
+        (json_tokens (array (as_items (map (id_and_value names.now) pairs.now))))) }
+{
+    out.begin_array()?;
+    for (id, value) in pairs {
+        write_pair(alloc, names, *id, value, out)?;
+    }
+    out.end_array()
+}
+
 /// Writes a list of pairs as a member, unless it is empty.
 fn write_pairs(
     alloc: Global,
@@ -115,11 +143,7 @@ fn write_pairs(
         return Ok(());
     }
     out.key(name)?;
-    out.begin_array()?;
-    for (id, value) in pairs {
-        write_pair(alloc, names, *id, value, out)?;
-    }
-    out.end_array()
+    write_pair_list(alloc, names, pairs, out)
 }
 
 /// Writes the word, if it is meant.
