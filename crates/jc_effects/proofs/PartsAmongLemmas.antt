@@ -94,7 +94,7 @@ links_same (Some (To i)) (Some (To j)) e = ap (λ x. Some (To x)) (sym (same_id-
 link_same : (m n : Option Next) → not (is_some (link_changed m n)) ≡ true → n ≡ m
 link_same m n e = go (same_link m n) refl e
   where
-    go : (b : Bool) → same_link m n ≡ b → not (is_some (cond b None (Some (m, n)))) ≡ true → n ≡ m
+    go : (b : Bool) → same_link m n ≡ b → not (is_some {T = Option Next × Option Next} (cond b None (Some (m, n)))) ≡ true → n ≡ m
     go true f g = links_same m n f
     go false f g = no_truth g
 

@@ -20,6 +20,7 @@ use Rattle.jc_rules.specs.WellFormed.{elements, AreDistinct, chain_of, IsChain, 
 use Rattle.jc_rules.proofs.BoolLemmas.{no_truth, neither, or_right}
 use Rattle.jc_network.proofs.LinksKeptLemmas.{operates}
 use Rattle.jc_tree.proofs.ChainedLeadsLemmas.{leads_from, leads_on, steps}
+use Rattle.jc_vectors.specs.OperationIds.{with_deps}
 use Rattle.jc_meaning.specs.Effects.{list_at, is_insert, target_of, target}
 use Rattle.jc_meaning.specs.Forest.{Forest, preorder, follow, is_less}
 use Rattle.jc_meaning.specs.Meaning.{LinksOf}
@@ -53,17 +54,17 @@ pub record WalkedTo (o : Op) (c : Context) (k : Key) : Type 0 where
 pub walk_begins : (o : Op) (c d : Context) → IsChangedBy o c d → is_insert o.mutation ≡ true → WalkedTo o (seen o.cursor.path c) o.cursor.last
 walk_begins o c d x is =
     let S = x.1.set in
-    let new = next_new S _ x.1.next in
-    let list : list_at false o.cursor.path ≡ true = insert_listed S _ c d x.1.means x.1.leads is in
+    let new = next_new S (with_deps x.0 o) x.1.next in
+    let list : list_at false o.cursor.path ≡ true = insert_listed S (with_deps x.0 o) c d x.1.means x.1.leads is in
     let l : LinksOf true S o.cursor.path (seen o.cursor.path c) = subst (λ b. LinksOf b S o.cursor.path (seen o.cursor.path c)) list (x.1.means.links o.cursor.path) in
     let w : IsWhole S o.cursor.path l.0 = whole S new.good o.cursor.path list l.0 l.1 in
     record {
       elements = preorder l.0;
       distinct = distinct_from (preorder l.0) K.Head (head_out (preorder l.0)) w.once;
-      out = w.only o.id (not_inserted S _ o.cursor.path new);
+      out = w.only o.id (not_inserted S (with_deps x.0 o) o.cursor.path new);
       links = l.2;
       behind = refl;
-      linked = λ e. reached o.cursor.path c o.cursor.last ((operates c _ d x.1.leads).wants (is_insert-is o.mutation is)) (l.2 o.cursor.last ∙ e);
+      linked = λ e. reached o.cursor.path c o.cursor.last ((operates c (with_deps x.0 o) d x.1.leads).wants (is_insert-is o.mutation is)) (l.2 o.cursor.last ∙ e);
     }
 
 in_follows : (j : Key) (ns : List Id) (k : Key) → (same_key j k || key_in k ns) ≡ true → follow j ns k ≢ None
@@ -191,7 +192,7 @@ before_other o c k is b = subst (λ z. same_key z k ≡ false) (sym (insert_targ
 pub links_at_other : (o : Op) (c d : Context) (x : IsChangedBy o c d) → is_insert o.mutation ≡ true → (k : Key) → IsKeyBefore o (seen o.cursor.path c) k
     → (l : Key) → same_key (K.Elem o.id) l ≡ false → same_key k l ≡ false → next l (seen o.cursor.path d) ≡ next l (seen o.cursor.path c)
 links_at_other o c d x is k b l e f =
-    let m : Changes o.id x.0 o.cursor.path o.cursor.last o.mutation c d = changes_of _ c d x.1 in
+    let m : Changes o.id x.0 o.cursor.path o.cursor.last o.mutation c d = changes_of (with_deps x.0 o) c d x.1 in
     m.linked is b.elements b.distinct b.out b.links l
     ∙ ap (λ ns. follow K.Head ns l) b.behind
     ∙ linked k o.id K.Head b.elements b.stop b.distinct refl b.out b.stops b.lesser l

@@ -28,7 +28,7 @@ use Rattle.jc_effects.proofs.PartsReadLemmas.{IsNew}
 
 -- where nothing was, nothing was lost
 lost_nothing : (k : Key) (c d : Context) → OnlyLosesAt k c d → ((i : Id) → has_id i (ids_at k c) ≡ false) → ((i : Id) → value_seen_at i k c ≡ None) → IsSameAt k c d
-lost_nothing k c d h none no = record {
+lost_nothing k c d h none gone = record {
   maps = h.maps;
   lists = h.lists;
   registers = h.registers;
@@ -38,7 +38,7 @@ lost_nothing k c d h none no = record {
 }
   where
     go : (i : Id) (v : Option Value) → value_seen_at i k d ≡ v → value_seen_at i k d ≡ value_seen_at i k c
-    go i None e = e ∙ sym (no i)
+    go i None e = e ∙ sym (gone i)
     go i (Some v) e = h.values i (ap is_some e)
 
 -- a new context loses nothing

@@ -13,6 +13,7 @@ use Rattle.jc_rules.specs.Context.{Context, Register, next}
 use Rattle.jc_rules.proofs.BoolLemmas.{no_truth, or_false}
 use Rattle.jc_rules.proofs.IdsLemmas.{has_id-without, without-rises, same_members}
 use Rattle.jc_tree.specs.Tree.{or_no_entries, has_ids}
+use Rattle.jc_vectors.specs.OperationIds.{with_deps}
 use Rattle.jc_meaning.specs.Effects.{touches, clears, written_by, overwrites}
 use Rattle.jc_meaning.specs.Seen.{seen, ids_at, reg_at, value_in_some, value_seen_at, has_tag}
 use Rattle.jc_meaning.proofs.OperationActsLemmas.{or_else, Changes}
@@ -86,7 +87,7 @@ lost_keeps k c d h = record { maps = λ e. h.maps ∙ e; lists = λ e. h.lists �
 
 module _ (o : Op) (c d : Context) (x : IsChangedBy o c d) (P : List Tagged) (k : Key) where
   changes : Changes o.id x.0 o.cursor.path o.cursor.last o.mutation c d
-  changes = changes_of _ c d x.1
+  changes = changes_of (with_deps x.0 o) c d x.1
 
   tag_kept : (b p : Bool) → b ≡ true → (b || p) ≡ true
   tag_kept true p e = refl
@@ -103,7 +104,7 @@ module _ (o : Op) (c d : Context) (x : IsChangedBy o c d) (P : List Tagged) (k :
     maps = λ e. changes.tags P (MapT k) ∙ tag_kept _ _ e;
     lists = λ e. changes.tags P (ListT k) ∙ tag_kept _ _ e;
     registers = λ e. changes.tags P (RegT k) ∙ tag_kept _ _ e;
-    values = λ i e f. changes.values P k i ∙ value_stays (same_id i o.id) _ _ (value_seen_at i k (seen P c)) (new_value _ c d x.1 P k i) e (ap is_some (sym (changes.values P k i)) ∙ f);
+    values = λ i e f. changes.values P k i ∙ value_stays (same_id i o.id) _ _ (value_seen_at i k (seen P c)) (new_value (with_deps x.0 o) c d x.1 P k i) e (ap is_some (sym (changes.values P k i)) ∙ f);
   }
 
   one_gained : (s x cl y : Bool) → ((s || false) && not x) ≡ (((s && true) || (x && not (cl && y))) && not x)

@@ -13,7 +13,8 @@ use Rattle.jc_rules.specs.Order.{same_id, same_key}
 use Rattle.jc_rules.specs.Ids.{has_id}
 use Rattle.jc_rules.specs.Context.{Context, next, key_of_tagged}
 use Rattle.jc_rules.proofs.BoolLemmas.{no_truth}
-use Rattle.jc_meaning.specs.Effects.{same_path, is_at_or_above, is_delete, is_insert, is_clearing, target, touches, clears, written_by, passed, value_in}
+use Rattle.jc_vectors.specs.OperationIds.{with_deps}
+use Rattle.jc_meaning.specs.Effects.{same_path, is_at_or_above, is_delete, is_insert, is_clearing, target, touches, clears, written_by, passed, value_in, primitive_in}
 use Rattle.jc_meaning.specs.Seen.{seen, ids_at, value_seen_at, has_tag}
 use Rattle.jc_meaning.proofs.OperationActsLemmas.{or_else, Changes}
 use Rattle.jc_meaning.proofs.OrdersLemmas.{keys_back, keys_self}
@@ -64,8 +65,8 @@ none_passed (s ∷ ss) q v t R u = ap (λ b. b && passed ss q v (ss ++ t ∷ R) 
 
 -- ---- what may differ
 
-no_value_at : (b s : Bool) (v : Option Value) → (b && s) ≡ false → cond (b && s) v None ≡ None
-no_value_at b s v e = ap (λ z. cond z v None) e
+no_value_at : (o : Op) (P : List Tagged) (k : Key) → (same_path o.cursor.path P && same_key (target o) k) ≡ false → written_by o P k ≡ None
+no_value_at o P k e = ap (λ z. cond z (primitive_in (value_in o.mutation)) None) e
 
 pub on_path : (o : Op) (P : List Tagged) (t : Tagged) (X : List Tagged) (may : May) → o.cursor.path ≡ P ++ t ∷ X → may.gain ≡ not (is_delete o.mutation) → MayDiffer o P (key_of_tagged t) may
 on_path o P t X may e g = record {
@@ -73,7 +74,7 @@ on_path o P t X may e g = record {
   clear = λ f. ap (λ b. is_clearing o.mutation && b) (ap (λ p. is_at_or_above p (target o) P (key_of_tagged t)) e ∙ not_above P t X (target o) (key_of_tagged t)) ∙ and_false (is_clearing o.mutation);
   values = λ f. (
       ap (λ b. is_clearing o.mutation && b) (ap (λ p. is_at_or_above p (target o) P (key_of_tagged t)) e ∙ not_above P t X (target o) (key_of_tagged t)) ∙ and_false (is_clearing o.mutation),
-      no_value_at _ _ _ (ap (λ b. b && same_key (target o) (key_of_tagged t)) (ap (λ p. same_path p P) e ∙ not_same P t X)),
+      no_value_at o P (key_of_tagged t) (ap (λ b. b && same_key (target o) (key_of_tagged t)) (ap (λ p. same_path p P) e ∙ not_same P t X)),
     );
 }
 
@@ -95,7 +96,7 @@ at_link o k may is other g = record {
   clear = λ h. ap (λ b. b && is_at_or_above o.cursor.path (target o) o.cursor.path k) (insert_clears o.mutation is);
   values = λ h. (
       ap (λ b. b && is_at_or_above o.cursor.path (target o) o.cursor.path k) (insert_clears o.mutation is),
-      no_value_at _ _ _ (ap (λ b. same_path o.cursor.path o.cursor.path && b) other ∙ and_false (same_path o.cursor.path o.cursor.path)),
+      no_value_at o o.cursor.path k (ap (λ b. same_path o.cursor.path o.cursor.path && b) other ∙ and_false (same_path o.cursor.path o.cursor.path)),
     );
 }
 
@@ -103,7 +104,7 @@ at_link o k may is other g = record {
 
 module _ (o : Op) (c d : Context) (x : IsChangedBy o c d) (t : Tagged) where
   changes : Changes o.id x.0 o.cursor.path o.cursor.last o.mutation c d
-  changes = changes_of _ c d x.1
+  changes = changes_of (with_deps x.0 o) c d x.1
 
   inside : (c : Context) (R : List Tagged) → seen (o.cursor.path ++ t ∷ R) c ≡ seen R (below t (seen o.cursor.path c))
   inside c R = seen_seen o.cursor.path (t ∷ R) c
@@ -113,9 +114,9 @@ module _ (o : Op) (c d : Context) (x : IsChangedBy o c d) (t : Tagged) where
   same_inside not_clearing R l =
       subst (λ z. IsSameAt l z (seen R (below t (seen o.cursor.path d)))) (inside c R)
       (subst (λ z. IsSameAt l (seen (o.cursor.path ++ t ∷ R) c) z) (inside d R)
-      (elsewhere _ c d x.1 (o.cursor.path ++ t ∷ R) l away (ap (λ b. is_insert o.mutation && b) (same_shorter o.cursor.path t R) ∙ and_false (is_insert o.mutation))))
+      (elsewhere (with_deps x.0 o) c d x.1 (o.cursor.path ++ t ∷ R) l away (ap (λ b. is_insert o.mutation && b) (same_shorter o.cursor.path t R) ∙ and_false (is_insert o.mutation))))
     where
-      away : IsAway _ (o.cursor.path ++ t ∷ R) l
+      away : IsAway (with_deps x.0 o) (o.cursor.path ++ t ∷ R) l
       away = record {
         untouched = ap (λ b. not (is_delete o.mutation) && b) (not_deeper o.cursor.path t R l (target o)) ∙ and_false (not (is_delete o.mutation));
         uncleared = ap (λ b. b && is_at_or_above o.cursor.path (target o) (o.cursor.path ++ t ∷ R) l) not_clearing;
@@ -153,7 +154,7 @@ module _ (o : Op) (c d : Context) (x : IsChangedBy o c d) (t : Tagged) where
   loses_at clearing R l =
       let P = o.cursor.path ++ t ∷ R in
       let away : touches o P l ≡ false = ap (λ b. not (is_delete o.mutation) && b) (not_deeper o.cursor.path t R l (target o)) ∙ and_false (not (is_delete o.mutation)) in
-      let unwritten : written_by o P l ≡ None = no_value_at _ _ _ (ap (λ b. b && same_key (target o) l) (same_shorter o.cursor.path t R)) in
+      let unwritten : written_by o P l ≡ None = no_value_at o P l (ap (λ b. b && same_key (target o) l) (same_shorter o.cursor.path t R)) in
       record {
         maps = changes.tags P (MapT l) ∙ unmade _ _ (none_passed o.cursor.path (target o) (value_in o.mutation) t R (MapT l));
         lists = changes.tags P (ListT l) ∙ unmade _ _ (none_passed o.cursor.path (target o) (value_in o.mutation) t R (ListT l));

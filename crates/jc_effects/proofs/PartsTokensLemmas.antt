@@ -120,3 +120,8 @@ place_written a b c d e f g h names k o m l rest begins front list middle maps b
     (labelled_then b d e (front_members names k o ++ some_items (codes "list") (place_items names l)) (middle_members names o)
     (labelled_then b c d (front_members names k o) (some_items (codes "list") (place_items names l)) front list) middle) maps) back)
     ends
+
+-- items of a list that isn't empty
+pub items_empty : {X : Type 0} (f : X → Json) (xs : List X) (b : Bool) → b ≡ ? → b ≡ false → is_no_item (as_items (map f xs)) ≡ false
+items_empty f [] b e g = ?
+items_empty f (x ∷ xs) b e g = refl

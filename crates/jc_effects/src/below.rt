@@ -1,6 +1,6 @@
 //! The places that differ in a context in which nothing but losses can be, however deep.
 
-ghost use Rattle.std.specs.Prelude.{◌≡◌, ◌++◌, ◌∷◌, [], List, IfOk, OnOk};
+ghost use Rattle.std.specs.Prelude.{◌≡◌, ◌++◌, ◌∷◌, [], List, Some, IfOk, OnOk};
 ghost use Rattle.jc_rules.specs.declared.key.Key.{Key as AnyKey};
 ghost use Rattle.jc_meaning.specs.Seen.{seen};
 ghost use Rattle.jc_effects.specs.Difference.{below, own_difference, IsDifference};
@@ -91,9 +91,12 @@ pub(crate) fn child_below<S: TreeStore>(
     ensures path { OnOk result (at.new.items ≡ at.old.items) }
 {
     let inside = contexts_below(change, contexts, at.as_slice(), &tagged);
+    let Some(place) = inside.old else {
+        return Ok(Effects::Nothing);
+    };
     let depth = at.len();
     at.push(tagged)?;
-    let effects = places_below(change, inside, at)?;
+    let effects = places_below(change, place, inside, at)?;
     at.truncate(depth);
     Ok(effects)
 }
@@ -124,15 +127,18 @@ fn place_below<S: TreeStore>(
     with_place(change.alloc, key, own, map, list, rest)
 }
 
-/// The places that differ in the context at the path. At the end `at` is as it was, unless memory ran out.
+/// The places that differ in the context at the path, whose name in the old store is `place`. At the end `at` is as it
+/// was, unless memory ran out.
 #[cycle(below)]
 fn places_below<S: TreeStore>(
     change: &Change<'_, S>,
+    place: Place,
     contexts: Contexts,
     at: &mut Vec<Tagged>,
 ) -> Result<Effects, AllocError>
     requires contexts { AreContexts (S.names change.now.old.now) (S.names change.now.new.now)
         (S.tree change.now.old.now) (S.tree change.now.new.now) at.old.items contexts }
+    requires named { contexts.old ≡ Some place }
     requires losses { OnlyLoses (seen at.old.items (S.tree change.now.old.now).now)
         (seen at.old.items (S.tree change.now.new.now).now) }
     ensures difference { IfOk result (λ effects. IsDifference (seen at.old.items (S.tree change.now.old.now).now)
@@ -140,9 +146,6 @@ fn places_below<S: TreeStore>(
     ensures path { OnOk result (at.new.items ≡ at.old.items) }
 {
     let mut effects = Effects::Nothing;
-    let Some(place) = contexts.old else {
-        return Ok(effects);
-    };
     let mut keys = change.old.keys_at(change.alloc, place, at.as_slice())?;
     while let Some(lent) = keys.pop() {
         effects = place_below(change, contexts, at, lent.0, effects)?;

@@ -1,0 +1,27 @@
+use Rattle.std.proofs.Common.{◌≡◌, ◌∷◌, [], false, codes, sym, ◌∙◌, ap, subst}
+use Rattle.std.proofs.lemmas.Result.{on_ok_weaker}
+use Rattle.json.specs.Token as T
+use Rattle.jc_view.specs.Parts.{Gains}
+use Rattle.jc_view.proofs.TokensLemmas.{gains_one}
+use Rattle.jc_effects.specs.Difference.{Differences, is_no_difference}
+use Rattle.jc_effects.specs.EffectsJson.{place_items}
+use Rattle.jc_effects.specs.Parts.{differences_of, first_tokens}
+use Rattle.jc_effects.proofs.PartsTokensLemmas.{some_written, array_written, places_none, place_written}
+use Rattle.jc_effects.proofs.writing.+places.Goals as goal
+
+pub write_inside-returns : goal.write_inside-returns
+write_inside-returns t c =
+    let x = differences_of c.args.effects.now in
+    let js = place_items c.args.names.now x in
+    on_ok_weaker c.end_array.result
+    (λ e. some_written _ _ _ c.args.name.now js (places_none c.args.names.now x ∙ sym c.is_nothing.ensures ∙ c.if-is_nothing.false) (gains_one _ _ _ _ _ c.in_ok-key.was c.key.ensures)
+        (array_written _ _ _ _ js (gains_one _ _ _ _ _ c.in_ok-begin_array.was c.begin_array.ensures) c.in_ok-write_places.ensures (record { before = c.end_array.ensures.room.0; tokens = e })))
+    c.end_array.ensures.ok
+
+pub write_first-returns : goal.write_first-returns
+write_first-returns t c =
+    let names = c.args.names.now in
+    on_ok_weaker c.end_object.result
+    (λ e. subst (λ (x : Differences). Gains c.args.out.now c.end_object.new.self (first_tokens names x)) (sym (ap differences_of c.in-Place.is))
+        (place_written _ _ _ _ _ _ _ _ names c.in-Place.key.now _ (differences_of c.in-Place.map.now.value) (differences_of c.in-Place.list.now.value) _ (gains_one _ _ _ _ _ c.in_ok-begin_object.was c.begin_object.ensures) c.in_ok-write_front.ensures c.in_ok-write_inside.ensures (c.in_ok-write_middle.ensures c.in-Place.key.now) c.in_ok-write_inside-2.ensures (c.in_ok-write_back.ensures c.in-Place.key.now) (record { before = c.end_object.ensures.room.0; tokens = e })))
+    c.end_object.ensures.ok
