@@ -1,5 +1,5 @@
 -- About Parts: the tokens of members and of items, one after another.
-use Rattle.std.proofs.Common.{◌≡◌, ℕ, List, [], ◌∷◌, ◌++◌, append_assoc, Bool, true, false, not, ◌||◌, ◌&&◌, cond, codes, map, refl, sym, ◌∙◌, ap, subst}
+use Rattle.std.proofs.Common.{◌≡◌, ◌==◌, ℕ, length, List, [], ◌∷◌, ◌++◌, append_assoc, Bool, true, false, not, ◌||◌, ◌&&◌, cond, codes, map, refl, sym, ◌∙◌, ap, subst}
 use Rattle.std.proofs.lemmas.List.{append-nil}
 use Rattle.json.specs.Json.{Json, array, object, Items, no_items, item, string}
 use Rattle.json.specs.Token.{Token}
@@ -122,6 +122,6 @@ place_written a b c d e f g h names k o m l rest begins front list middle maps b
     ends
 
 -- items of a list that isn't empty
-pub items_empty : {X : Type 0} (f : X → Json) (xs : List X) (b : Bool) → b ≡ ? → b ≡ false → is_no_item (as_items (map f xs)) ≡ false
-items_empty f [] b e g = ?
+pub items_empty : {X : Type 0} (f : X → Json) (xs : List X) (b : Bool) → b ≡ (length xs == 0) → b ≡ false → is_no_item (as_items (map f xs)) ≡ false
+items_empty f [] b e g = let z : true ≡ false = sym e ∙ g in no_truth (sym z)
 items_empty f (x ∷ xs) b e g = refl

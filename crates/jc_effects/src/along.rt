@@ -298,18 +298,19 @@ fn place_on_path<S: TreeStore>(
         values: false,
     };
     let own = own_at(change, contexts, at, tagged.key(), may)?;
-    let (map, list) = match tagged {
-        Tagged::ListT(_) => (Effects::Nothing, inside),
-        _ => (inside, Effects::Nothing),
-    };
-    with_place(
-        change.alloc,
-        tagged.key(),
-        own,
-        map,
-        list,
-        Effects::Nothing,
-    )
+    let none = Effects::Nothing;
+    match tagged {
+        Tagged::MapT(key) => with_place(change.alloc, key, own, inside, none, Effects::Nothing),
+        Tagged::ListT(key) => with_place(change.alloc, key, own, none, inside, Effects::Nothing),
+        Tagged::RegT(key) => with_place(
+            change.alloc,
+            key,
+            own,
+            none,
+            Effects::Nothing,
+            Effects::Nothing,
+        ),
+    }
 }
 
 /// The places that differ in the context so deep on the operation's path.

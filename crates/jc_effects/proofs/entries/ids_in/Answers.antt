@@ -19,7 +19,7 @@ pub returns-in-Some-presence_by-clause-rising : goal.returns-in-Some-presence_by
 returns-in-Some-presence_by-clause-rising g c =
     let tree = g.S.TreeStore.tree c.args.store.now in
     let named = subst (IsNamed (g.S.TreeStore.names c.args.store.now) tree c.args.at.now) c.in-Some.is c.requires in
-    ids_rise c.args.at.now c.args.key.now tree _ named.0 (g.S.TreeStore.kept c.args.store.now) (sym (ap option_copied c.in-Some-presence_by.is) ∙ c.presence_by.ensures)
+    ids_rise c.args.at.now c.args.key.now tree _ named.0 (g.met.S.TreeStore.kept c.args.store.now) (sym (ap option_copied c.in-Some-presence_by.is) ∙ c.presence_by.ensures)
 
 pub returns-in-None-clause-ids : goal.returns-in-None-clause-ids
 returns-in-None-clause-ids g c =

@@ -20,7 +20,7 @@ pub returns-in-Some-register_at-clause-formed : goal.returns-in-Some-register_at
 returns-in-Some-register_at-clause-formed g c =
     let tree = g.S.TreeStore.tree c.args.store.now in
     let named = subst (IsNamed (g.S.TreeStore.names c.args.store.now) tree c.args.at.now) c.in-Some.is c.requires in
-    pairs_formed c.args.at.now c.args.key.now tree _ named.0 (g.S.TreeStore.kept c.args.store.now) (sym (ap option_copied c.in-Some-register_at.is) ∙ c.register_at.ensures)
+    pairs_formed c.args.at.now c.args.key.now tree _ named.0 (g.met.S.TreeStore.kept c.args.store.now) (sym (ap option_copied c.in-Some-register_at.is) ∙ c.register_at.ensures)
 
 pub returns-in-None-clause-pairs : goal.returns-in-None-clause-pairs
 returns-in-None-clause-pairs g c =

@@ -23,5 +23,5 @@ write_first-returns t c =
     let names = c.args.names.now in
     on_ok_weaker c.end_object.result
     (λ e. subst (λ (x : Differences). Gains c.args.out.now c.end_object.new.self (first_tokens names x)) (sym (ap differences_of c.in-Place.is))
-        (place_written _ _ _ _ _ _ _ _ names c.in-Place.key.now _ (differences_of c.in-Place.map.now.value) (differences_of c.in-Place.list.now.value) _ (gains_one _ _ _ _ _ c.in_ok-begin_object.was c.begin_object.ensures) c.in_ok-write_front.ensures c.in_ok-write_inside.ensures (c.in_ok-write_middle.ensures c.in-Place.key.now) c.in_ok-write_inside-2.ensures (c.in_ok-write_back.ensures c.in-Place.key.now) (record { before = c.end_object.ensures.room.0; tokens = e })))
+        (place_written _ _ _ _ _ _ _ _ names c.in-Place.key _ (differences_of c.in-Place.map.value) (differences_of c.in-Place.list.value) _ (gains_one _ _ _ _ _ c.in_ok-begin_object.was c.begin_object.ensures) c.in_ok-write_front.ensures c.in_ok-write_inside.ensures (c.in_ok-write_middle.ensures c.in-Place.key) c.in_ok-write_inside-2.ensures (c.in_ok-write_back.ensures c.in-Place.key) (record { before = c.end_object.ensures.room.0; tokens = e })))
     c.end_object.ensures.ok
