@@ -132,10 +132,10 @@ over j k (i ∷ is) e a = (keys_total.trans j k i e a.0, over j k is e a.1)
 unlisted : (j k : Key) (o : OwnDifference) (m l rest : Differences) → key_cmp j k ≡ Less → IsRising key_cmp (differing_keys (difference k o m l rest)) → is_listed j (difference k o m l rest) ≡ false
 unlisted j k o m l rest e r = no_either (same_key j k) (is_listed j rest) (apart j k e) (below_all j rest (over j k (differing_keys rest) e r.0))
 
-flipped : (k j : Key) → key_cmp k j ≡ Greater → key_cmp j k ≡ Less
+pub flipped : (k j : Key) → key_cmp k j ≡ Greater → key_cmp j k ≡ Less
 flipped k j e = keys_total.antisymm j k ∙ ap ordering_reverse e
 
-is_less : (o : Ordering) → is_lt o ≡ true → o ≡ Less
+pub is_less : (o : Ordering) → is_lt o ≡ true → o ≡ Less
 is_less Less e = refl
 is_less Equal e = cc
 is_less Greater e = cc

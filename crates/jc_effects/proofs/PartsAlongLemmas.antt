@@ -1,14 +1,20 @@
 -- About Parts: the places that differ along an operation's path and at its target.
-use Rattle.std.proofs.Common.{◌≡◌, List, [], ◌∷◌, ◌++◌, Bool, true, false, ◌&&◌, cond, refl, sym, ◌∙◌, ap, subst}
+use Rattle.std.proofs.Common.{◌≡◌, ℕ, ◌+◌, ◌<◌, length, get_or, take, drop, append_assoc, List, [], ◌∷◌, ◌++◌, Bool, true, false, ◌&&◌, cond, refl, sym, ◌∙◌, ap, subst}
+use Rattle.std.specs.Ordering.{is_lt}
+use Rattle.std.specs.declared.cmp.Ordering.{Ordering}
+use Rattle.std.specs.declared.cmp.Ordering.TheVariants.{Less, Equal, Greater}
+use Rattle.std.proofs.lemmas.List.{take_more, take-append-drop}
 use Rattle.jc_rules.specs.declared.key.Key.{Key}
 use Rattle.jc_rules.specs.declared.key.Key.TheVariants as K
 use Rattle.jc_rules.specs.declared.key.Tagged.{Tagged}
 use Rattle.jc_rules.specs.declared.key.Tagged.TheVariants.{MapT, ListT, RegT}
 use Rattle.jc_rules.specs.declared.operation.Op.{Op}
-use Rattle.jc_rules.specs.Order.{same_key}
+use Rattle.jc_rules.specs.Order.{key_cmp, same_key}
 use Rattle.jc_rules.specs.Context.{Context, key_of_tagged}
 use Rattle.jc_rules.specs.Table.{is_done}
 use Rattle.jc_rules.proofs.BoolLemmas.{no_truth}
+use Rattle.jc_rules.proofs.OrderLemmas.{exact_keys}
+use Rattle.jc_meaning.proofs.OrdersLemmas.{keys_self}
 use Rattle.jc_meaning.specs.Effects.{is_insert, target}
 use Rattle.jc_meaning.specs.Seen.{seen}
 use Rattle.jc_meaning.proofs.ClearingEffectsLemmas.{seen_append}
@@ -17,8 +23,9 @@ use Rattle.jc_effects.specs.Difference.{Differences, no_difference, own_differen
 use Rattle.jc_effects.specs.Laws.{IsChangedBy}
 use Rattle.jc_effects.specs.Parts.{own_seen, with_difference, AreLater, IsDifferenceAmong, IsKeyBefore, OnlyLoses}
 use Rattle.jc_effects.proofs.LawsPathLemmas.{others_on_path, other_tag_on_path, others_at_target, none_below_other}
+use Rattle.jc_effects.proofs.OneLemmas.{flipped}
 use Rattle.jc_effects.proofs.PartsAmongLemmas.{none_among, one_more, all_among}
-use Rattle.jc_effects.proofs.PartsInsertLemmas.{others_at_insert, insert_target}
+use Rattle.jc_effects.proofs.PartsInsertLemmas.{others_at_insert, insert_target, before_other}
 use Rattle.jc_effects.proofs.PartsOwnLemmas.{keeps_all, lost_keeps}
 
 -- ---- a key more
@@ -113,3 +120,26 @@ below_longer P t c d y h = subst (λ z. IsDifference z (below t (seen P d)) y) (
 
 pub longer_below : (P : List Tagged) (t : Tagged) (c d : Context) → OnlyLoses (below t (seen P c)) (below t (seen P d)) → OnlyLoses (seen (P ++ t ∷ []) c) (seen (P ++ t ∷ []) d)
 longer_below P t c d h = subst (λ z. OnlyLoses z (seen (P ++ t ∷ []) d)) (sym (seen_append P t c)) (subst (λ z. OnlyLoses (below t (seen P c)) z) (sym (seen_append P t d)) h)
+
+-- ---- a path at a depth
+
+pub longer_at : (xs : List Tagged) (n : ℕ) (x : Tagged) → n < length xs → x ≡ get_or xs n x → take (n + 1) xs ≡ take n xs ++ x ∷ []
+longer_at xs n x h e = take_more xs n x h ∙ ap (λ (y : Tagged). take n xs ++ y ∷ []) (sym e)
+
+pub split_at : (xs : List Tagged) (n : ℕ) (x : Tagged) → n < length xs → x ≡ get_or xs n x → xs ≡ take n xs ++ x ∷ drop (n + 1) xs
+split_at xs n x h e =
+    sym (take-append-drop (n + 1) xs)
+    ∙ ap (λ ys. ys ++ drop (n + 1) xs) (longer_at xs n x h e)
+    ∙ append_assoc (take n xs) (x ∷ []) (drop (n + 1) xs)
+
+-- ---- the order of the two keys of an insert
+
+pub element_lesser : (o : Op) (c : Context) (k : Key) → is_insert o.mutation ≡ true → IsKeyBefore o c k → (r : Ordering) → r ≡ key_cmp k (K.Elem o.id) → is_lt r ≡ false → key_cmp (K.Elem o.id) k ≡ Less
+element_lesser o c k is b Less e h = no_truth (sym h)
+element_lesser o c k is b Equal e h =
+    let same : k ≡ K.Elem o.id = exact_keys k (K.Elem o.id) (sym e) in
+    let other : same_key (K.Elem o.id) k ≡ false = subst (λ z. same_key z k ≡ false) (insert_target o is) (before_other o c k is b) in
+    let yes : same_key (K.Elem o.id) k ≡ true = subst (λ z. same_key (K.Elem o.id) z ≡ true) (sym same) (keys_self (K.Elem o.id)) in
+    let z : false ≡ true = sym other ∙ yes in
+    no_truth z
+element_lesser o c k is b Greater e h = flipped k (K.Elem o.id) (sym e)

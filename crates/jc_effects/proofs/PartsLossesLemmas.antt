@@ -1,5 +1,5 @@
 -- About Parts: the places that differ in a context in which nothing but losses can be (`OnlyLoses`).
-use Rattle.std.proofs.Common.{◌≡◌, ℕ, zero, suc, ◌<◌, List, [], ◌∷◌, ◌++◌, append_assoc, length, map, Bool, true, false, cond, Option, Some, None, is_some, Contains, refl, sym, ◌∙◌, ap, subst, arith}
+use Rattle.std.proofs.Common.{◌≡◌, option_to_list, ℕ, zero, suc, ◌<◌, List, [], ◌∷◌, ◌++◌, append_assoc, length, map, Bool, true, false, cond, Option, Some, None, is_some, Contains, refl, sym, ◌∙◌, ap, subst, arith}
 use Rattle.std.specs.List.{AllByRecursion}
 use Rattle.std.specs.Borrow.{Bor}
 use Rattle.std.specs.declared.cmp.Ordering.TheVariants.{Less}
@@ -135,3 +135,9 @@ passed_all all c d x keys h p = all_among all c d x (λ k e. other_key k all c k
 pub lent_last : {X : Type 0} (ls : List (Bor Key × X)) (l : Bor Key × X) → keys_lent (ls ++ l ∷ []) ≡ keys_lent ls ++ l.0.now ∷ []
 lent_last [] l = refl
 lent_last (x ∷ xs) l = ap (λ ks. x.0.now ∷ ks) (lent_last xs l)
+
+-- nothing was left where nothing came
+pub emptied : {X : Type 0} (old new : List X) (o : Option X) → o ≡ None → old ≡ new ++ option_to_list o → (0 < length old → is_some o ≡ true) → old ≡ []
+emptied [] new o e f v = refl
+emptied (x ∷ xs) new None e f v = no_truth (v (omega arith))
+emptied (x ∷ xs) new (Some y) e f v = cc

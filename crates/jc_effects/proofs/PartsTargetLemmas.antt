@@ -14,7 +14,7 @@ use Rattle.jc_rules.specs.Ids.{has_id}
 use Rattle.jc_rules.specs.Context.{Context, next, key_of_tagged}
 use Rattle.jc_rules.proofs.BoolLemmas.{no_truth}
 use Rattle.jc_vectors.specs.OperationIds.{with_deps}
-use Rattle.jc_meaning.specs.Effects.{same_path, is_at_or_above, is_delete, is_insert, is_clearing, target, touches, clears, written_by, passed, value_in, primitive_in}
+use Rattle.jc_meaning.specs.Effects.{same_path, is_at_or_above, is_delete, is_insert, is_clearing, target_of, target, touches, clears, written_by, passed, value_in, primitive_in}
 use Rattle.jc_meaning.specs.Seen.{seen, ids_at, value_seen_at, has_tag}
 use Rattle.jc_meaning.proofs.OperationActsLemmas.{or_else, Changes}
 use Rattle.jc_meaning.proofs.OrdersLemmas.{keys_back, keys_self}
@@ -169,3 +169,12 @@ module _ (o : Op) (c d : Context) (x : IsChangedBy o c d) (t : Tagged) where
   loses_inside clearing R l =
       subst (λ z. OnlyLosesAt l z (seen R (below t (seen o.cursor.path d)))) (inside c R)
       (subst (λ z. OnlyLosesAt l (seen (o.cursor.path ++ t ∷ R) c) z) (inside d R) (loses_at clearing R l))
+
+-- what isn't an insert has its last key as its target
+pub other_target : (o : Op) → is_insert o.mutation ≡ false → o.cursor.last ≡ target o
+other_target o no_insert = go o.mutation no_insert
+  where
+    go : (m : Mutation) → is_insert m ≡ false → o.cursor.last ≡ target_of m o.id o.cursor.last
+    go M.Delete e = refl
+    go (M.Assign v) e = refl
+    go (M.Insert v) e = no_truth (sym e)

@@ -1,17 +1,18 @@
-use Rattle.std.proofs.Common.{rules, ◌≡◌, ◌<◌, List, [], ◌∷◌, ◌++◌, refl, sym, ◌∙◌, ap, subst, arith}
+use Rattle.std.proofs.Common.{rules, ◌≡◌, ◌<◌, Contains, option_to_list, List, [], ◌∷◌, ◌++◌, refl, sym, ◌∙◌, ap, subst, arith}
+use Rattle.std.specs.List.{AllByRecursion}
 use Rattle.std.proofs.lemmas.Result.{IfOk-weaker}
 use Rattle.jc_rules.specs.declared.key.Key.{Key}
 use Rattle.jc_rules.specs.declared.key.Tagged.{Tagged}
 use Rattle.jc_rules.specs.declared.key.Tagged.TheVariants.{MapT, ListT}
-use Rattle.jc_tree.specs.Tree.{here, keys_lent}
+use Rattle.jc_tree.specs.Tree.{here, all_keys, keys_lent}
 use Rattle.jc_tree.specs.Nested.{nested}
 use Rattle.jc_meaning.specs.Seen.{seen}
 use Rattle.jc_meaning.proofs.ClearingEffectsLemmas.{seen_append}
 use Rattle.jc_effects.specs.Difference.{Differences, own_difference, below, IsDifference}
-use Rattle.jc_effects.specs.Parts.{IsNamed, OnlyLosesAt, own_seen, differences_of}
+use Rattle.jc_effects.specs.Parts.{IsNamed, AreContexts, AreLater, IsDifferenceAmong, OnlyLosesAt, OnlyLoses, own_seen, differences_of}
 use Rattle.jc_effects.proofs.PartsAlongLemmas.{lost_place, below_longer, longer_below}
-use Rattle.jc_effects.proofs.PartsLossesLemmas.{none_new, loses_below, passed_none, passed_one, passed_all}
-use Rattle.jc_effects.proofs.PartsReadLemmas.{IsNew, new_inside, smaller_below}
+use Rattle.jc_effects.proofs.PartsLossesLemmas.{PassedBack, none_new, loses_below, passed_none, passed_one, passed_all, lent_last, emptied}
+use Rattle.jc_effects.proofs.PartsReadLemmas.{IsNew, new_inside, seen_here, smaller_below}
 use Rattle.jc_effects.proofs.below.+below.Goals as goal
 
 pub child_below-returns-in_default-clause-difference : goal.child_below-returns-in_default-clause-difference
@@ -24,7 +25,24 @@ child_below-returns-in_default-clause-difference g t c =
     none_new _ _ c.requires.losses (λ P. subst (λ z. IsNew (seen P z)) (seen_append at tagged before.now) (new_inside P (at ++ tagged ∷ []) before.now none))
 
 pub child_below-places_below-requires : goal.child_below-places_below-requires
-child_below-places_below-requires g t c κs within = ?
+child_below-places_below-requires g t c κs within =
+    let names = g.S.TreeStore.names c.args.change.now.old.now in
+    let others = g.S.TreeStore.names c.args.change.now.new.now in
+    let before = g.S.TreeStore.tree c.args.change.now.old.now in
+    let after = g.S.TreeStore.tree c.args.change.now.new.now in
+    let at = c.args.at.now.items in
+    let tagged = c.args.tagged in
+    let inside = c.contexts_below-inside.result in
+    let pushed : c.push.new.self.items ≡ at ++ tagged ∷ [] = c.in_ok-push.ensures.items in
+    let named : AreContexts names others before after (at ++ tagged ∷ []) inside =
+    subst (λ (p : List Tagged). AreContexts names others before after (p ++ tagged ∷ []) inside) c.as_slice.ensures.value c.contexts_below-inside.ensures in
+    let there = subst (IsNamed names before (at ++ tagged ∷ [])) c.in-Some.is named.old in
+    let small : nested (here (at ++ tagged ∷ []) before) < nested (here at before) = smaller_below at tagged before there.0 in
+    let smaller : nested (here c.push.new.self.items before) < nested (here at before) = rw pushed small in
+    let contexts : AreContexts names others before after c.push.new.self.items inside = subst (λ (p : List Tagged). AreContexts names others before after p inside) (sym pushed) named in
+    let losses : OnlyLoses (seen c.push.new.self.items before.now) (seen c.push.new.self.items after.now) =
+    subst (λ (p : List Tagged). OnlyLoses (seen p before.now) (seen p after.now)) (sym pushed) (longer_below at tagged before.now after.now c.requires.losses) in
+    (omega (arith, smaller, c.decreases), (within, (contexts, (c.in-Some.is, losses))))
 
 pub child_below-returns-clause-difference : goal.child_below-returns-clause-difference
 child_below-returns-clause-difference g t c =
@@ -36,10 +54,12 @@ child_below-returns-clause-difference g t c =
     below_longer at tagged old new _ (subst (λ (p : List Tagged). IsDifference (seen p old) (seen p new) (differences_of c.in_ok-effects.effects)) pushed c.in_ok-effects.ensures.difference)
 
 pub place_below-child_below-requires : goal.place_below-child_below-requires
-place_below-child_below-requires g t c κs within = ?
+place_below-child_below-requires g t c κs within =
+    (omega (arith, c.decreases), (within, (c.requires.contexts, loses_below (ListT c.in_ok-copy.field-0) _ _ c.requires.losses)))
 
 pub place_below-child_below-requires-2 : goal.place_below-child_below-requires-2
-place_below-child_below-requires-2 g t c κs within = ?
+place_below-child_below-requires-2 g t c κs within =
+    rw c.in_ok-list.ensures.path (omega (arith, c.decreases), (within, (c.requires.contexts, loses_below (MapT c.in_ok-copy-2.field-0) _ _ c.requires.losses)))
 
 pub place_below-own_lost-requires-clause-losses : goal.place_below-own_lost-requires-clause-losses
 place_below-own_lost-requires-clause-losses g t c =
@@ -71,10 +91,34 @@ pub places_below-loop-lent-init : goal.places_below-loop-lent-init
 places_below-loop-lent-init g t c = (refl, passed_none _ _ _)
 
 pub places_below-place_below-requires : goal.places_below-place_below-requires
-places_below-place_below-requires g t c κs within = ?
+places_below-place_below-requires g t c κs within =
+    rw c.loop-lent.invariant.0 (omega (arith, c.decreases), (within, (c.requires.contexts, c.requires.losses)))
 
 pub places_below-loop-lent-preserved : goal.places_below-loop-lent-preserved
-places_below-loop-lent-preserved g t c = ?
+places_below-loop-lent-preserved g t c =
+    let old = (g.S.TreeStore.tree c.args.change.now.old.now).now in
+    let new = (g.S.TreeStore.tree c.args.change.now.new.now).now in
+    let at = c.args.at.now.items in
+    let k = c.in-Some.lent.0.now in
+    let was : c.loop-lent.keys.items ≡ c.pop.new.self.items ++ c.in-Some.lent ∷ [] = c.pop.ensures.items ∙ ap (λ o. c.pop.new.self.items ++ option_to_list o) c.in-Some.is in
+    let left : keys_lent c.loop-lent.keys.items ≡ keys_lent c.pop.new.self.items ++ k ∷ [] = ap keys_lent was ∙ lent_last c.pop.new.self.items c.in-Some.lent in
+    let passed = subst (λ (ks : List Key). PassedBack (keys_lent c.in_ok-keys.keys.items) ks (seen at old) (seen at new) (differences_of c.loop-lent.effects)) left c.loop-lent.invariant.1 in
+    let step : (ks : List Key) → AreLater k ks → IsDifferenceAmong ks (seen at old) (seen at new) (differences_of c.loop-lent.effects) → IsDifferenceAmong (k ∷ ks) (seen at old) (seen at new) (differences_of c.in_ok-effects.effects) =
+    subst (λ (p : List Tagged). (ks : List Key) → AreLater k ks → IsDifferenceAmong ks (seen p old) (seen p new) (differences_of c.loop-lent.effects) → IsDifferenceAmong (k ∷ ks) (seen p old) (seen p new) (differences_of c.in_ok-effects.effects)) c.loop-lent.invariant.0 c.in_ok-effects.ensures.difference in
+    (
+      c.in_ok-effects.ensures.path ∙ c.loop-lent.invariant.0,
+      passed_one (keys_lent c.in_ok-keys.keys.items) (keys_lent c.pop.new.self.items) k (seen at old) (seen at new) (differences_of c.loop-lent.effects) (differences_of c.in_ok-effects.effects) c.in_ok-keys.ensures.rising passed step,
+    )
 
 pub places_below-returns-clause-difference : goal.places_below-returns-clause-difference
-places_below-returns-clause-difference g t c = ?
+places_below-returns-clause-difference g t c =
+    let before = g.S.TreeStore.tree c.args.change.now.old.now in
+    let old = before.now in
+    let new = (g.S.TreeStore.tree c.args.change.now.new.now).now in
+    let at = c.args.at.now.items in
+    let all = keys_lent c.in_ok-keys.keys.items in
+    let none : c.loop-lent.keys.items ≡ [] = emptied c.loop-lent.keys.items c.pop.new.self.items c.pop.result c.in_default.is c.pop.ensures.items (λ h. c.pop.ensures.variant.1 (omega (arith, h, c.loop-lent.keys.ok.0))) in
+    let passed = subst (λ (ks : List Key). PassedBack all ks (seen at old) (seen at new) (differences_of c.loop-lent.effects)) (ap keys_lent none) c.loop-lent.invariant.1 in
+    let named = subst (IsNamed (g.S.TreeStore.names c.args.change.now.old.now) before at) c.requires.named c.requires.contexts.old in
+    let keys : AllByRecursion (Contains all) (all_keys (here at before)) = subst (λ (p : List Tagged). AllByRecursion (Contains all) (all_keys (here p before))) c.as_slice.ensures.value c.in_ok-keys.ensures.all in
+    passed_all all (seen at old) (seen at new) (differences_of c.loop-lent.effects) (subst (λ z. AllByRecursion (Contains all) (all_keys z)) (sym (seen_here at before named.0)) keys) c.requires.losses passed
