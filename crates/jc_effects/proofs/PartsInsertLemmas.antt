@@ -119,9 +119,9 @@ only_links c = context no_child no_child [] [] (links c)
 apart_all : (j : Key) (ns : List Id) → key_in j ns ≡ false → AllByRecursion (λ y. y ≢ j) (elements ns)
 apart_all j [] e = tt
 apart_all j (n ∷ ns) e = (
-    λ f. let same : same_key (K.Elem n) j ≡ true = subst (λ z. same_key (K.Elem n) z ≡ true) f (keys_self (K.Elem n)) in let z : false ≡ true = sym (neither (same_key (K.Elem n) j) (key_in j ns) e).0 ∙ same in no_truth z,
-    apart_all j ns (neither (same_key (K.Elem n) j) (key_in j ns) e).1,
-  )
+  λ f. let same : same_key (K.Elem n) j ≡ true = subst (λ z. same_key (K.Elem n) z ≡ true) f (keys_self (K.Elem n)) in let z : false ≡ true = sym (neither (same_key (K.Elem n) j) (key_in j ns) e).0 ∙ same in no_truth z,
+  apart_all j ns (neither (same_key (K.Elem n) j) (key_in j ns) e).1,
+)
 
 distinct_chain : (j : Key) (ns : List Id) → Distinct j ns → AreDistinct (j ∷ elements ns)
 distinct_chain j [] d = (tt, tt)
@@ -154,11 +154,18 @@ follow_contains j (n ∷ ns) k h = go (same_key j k) refl h (follow_contains (K.
     go false e f ih = contains_later j (elements (n ∷ ns)) k (ih f)
 
 chained : (o : Op) (c : Context) (k : Key) → WalkedTo o c k → IsChainedList (only_links c)
-chained o c k w = ((w.elements, record {
-    leads = leads_through (only_links c) w.elements w.distinct (λ l. w.links l);
-    distinct = distinct_chain K.Head w.elements w.distinct;
-    no_other = all_found (Contains (chain_of w.elements)) (links c) (λ l h. follow_contains K.Head w.elements l (λ e. h (w.links l ∙ e)));
-  }), tt, tt)
+chained o c k w = (
+  (
+    w.elements,
+    record {
+      leads = leads_through (only_links c) w.elements w.distinct (λ l. w.links l);
+      distinct = distinct_chain K.Head w.elements w.distinct;
+      no_other = all_found (Contains (chain_of w.elements)) (links c) (λ l h. follow_contains K.Head w.elements l (λ e. h (w.links l ∙ e)));
+    },
+  ),
+  tt,
+  tt,
+)
 
 pub walk_nearer : (o : Op) (c : Context) (k : Key) (i : Id) → WalkedTo o c k → next k c ≡ Some (To i) → steps (Some (K.Elem i)) (length (links c)) (only_links c) < steps (Some k) (length (links c)) (only_links c)
 walk_nearer o c k i w e = (leads_on (only_links c) k (To i) (leads_from (only_links c) k (To i) (chained o c k w) e) e).1

@@ -130,16 +130,16 @@ module _ (o : Op) (c d : Context) (x : IsChangedBy o c d) (P : List Tagged) (k :
       (without-rises (o.id ∷ []) (ids_at k (seen P c)) (tt, tt))
       (without-rises (ids_at k (seen P d)) (ids_at k (seen P c)) q)
       (λ j.
-          let is : has_id j (ids_at k (seen P d)) ≡ ((same_id j o.id && true) || (has_id j (ids_at k (seen P c)) && not (clears o P k && has_id j x.0))) =
-          changes.ids P k j ∙ ap (λ b. (same_id j o.id && b) || (has_id j (ids_at k (seen P c)) && not (clears o P k && has_id j x.0))) (sym e) in
-          has_id-without j (o.id ∷ []) (ids_at k (seen P c))
-          ∙ one_gained (same_id j o.id) (has_id j (ids_at k (seen P c))) (clears o P k) (has_id j x.0)
-          ∙ ap (λ b. b && not (has_id j (ids_at k (seen P c)))) (sym is)
-          ∙ sym (has_id-without j (ids_at k (seen P d)) (ids_at k (seen P c))))
+      let is : has_id j (ids_at k (seen P d)) ≡ ((same_id j o.id && true) || (has_id j (ids_at k (seen P c)) && not (clears o P k && has_id j x.0))) =
+      changes.ids P k j ∙ ap (λ b. (same_id j o.id && b) || (has_id j (ids_at k (seen P c)) && not (clears o P k && has_id j x.0))) (sym e) in
+      has_id-without j (o.id ∷ []) (ids_at k (seen P c))
+      ∙ one_gained (same_id j o.id) (has_id j (ids_at k (seen P c))) (clears o P k) (has_id j x.0)
+      ∙ ap (λ b. b && not (has_id j (ids_at k (seen P c)))) (sym is)
+      ∙ sym (has_id-without j (ids_at k (seen P d)) (ids_at k (seen P c))))
   gained_is false e r q =
       none_without (ids_at k (seen P d)) (ids_at k (seen P c))
       (λ j f. none_gained (same_id j o.id) (has_id j (ids_at k (seen P c))) (clears o P k) (has_id j x.0)
-          (ap (λ b. (same_id j o.id && b) || (has_id j (ids_at k (seen P c)) && not (clears o P k && has_id j x.0))) e ∙ sym (changes.ids P k j) ∙ f))
+      (ap (λ b. (same_id j o.id && b) || (has_id j (ids_at k (seen P c)) && not (clears o P k && has_id j x.0))) e ∙ sym (changes.ids P k j) ∙ f))
 
   lost_is : (b : Bool) → (b ≡ false → clears o P k ≡ false) → without (cond b (ids_at k (seen P c)) []) (ids_at k (seen P d)) ≡ without (ids_at k (seen P c)) (ids_at k (seen P d))
   lost_is true h = refl

@@ -73,9 +73,9 @@ on_path o P t X may e g = record {
   gain = g ∙ and_true (not (is_delete o.mutation)) ∙ ap (λ b. not (is_delete o.mutation) && b) (sym (ap (λ p. is_at_or_above P (key_of_tagged t) p (target o)) e ∙ above_on P t X (target o)));
   clear = λ f. ap (λ b. is_clearing o.mutation && b) (ap (λ p. is_at_or_above p (target o) P (key_of_tagged t)) e ∙ not_above P t X (target o) (key_of_tagged t)) ∙ and_false (is_clearing o.mutation);
   values = λ f. (
-      ap (λ b. is_clearing o.mutation && b) (ap (λ p. is_at_or_above p (target o) P (key_of_tagged t)) e ∙ not_above P t X (target o) (key_of_tagged t)) ∙ and_false (is_clearing o.mutation),
-      no_value_at o P (key_of_tagged t) (ap (λ b. b && same_key (target o) (key_of_tagged t)) (ap (λ p. same_path p P) e ∙ not_same P t X)),
-    );
+    ap (λ b. is_clearing o.mutation && b) (ap (λ p. is_at_or_above p (target o) P (key_of_tagged t)) e ∙ not_above P t X (target o) (key_of_tagged t)) ∙ and_false (is_clearing o.mutation),
+    no_value_at o P (key_of_tagged t) (ap (λ b. b && same_key (target o) (key_of_tagged t)) (ap (λ p. same_path p P) e ∙ not_same P t X)),
+  );
 }
 
 pub at_target : (o : Op) (P : List Tagged) (k : Key) (may : May) → P ≡ o.cursor.path → k ≡ target o → may.gain ≡ not (is_delete o.mutation) → may.clear ≡ is_clearing o.mutation → may.values ≡ true → MayDiffer o P k may
@@ -95,9 +95,9 @@ at_link o k may is other g = record {
   gain = g ∙ sym (ap (λ b. not (is_delete o.mutation) && b) (above_self o.cursor.path k (target o) ∙ keys_back k (target o) ∙ other) ∙ and_false (not (is_delete o.mutation)));
   clear = λ h. ap (λ b. b && is_at_or_above o.cursor.path (target o) o.cursor.path k) (insert_clears o.mutation is);
   values = λ h. (
-      ap (λ b. b && is_at_or_above o.cursor.path (target o) o.cursor.path k) (insert_clears o.mutation is),
-      no_value_at o o.cursor.path k (ap (λ b. same_path o.cursor.path o.cursor.path && b) other ∙ and_false (same_path o.cursor.path o.cursor.path)),
-    );
+    ap (λ b. b && is_at_or_above o.cursor.path (target o) o.cursor.path k) (insert_clears o.mutation is),
+    no_value_at o o.cursor.path k (ap (λ b. same_path o.cursor.path o.cursor.path && b) other ∙ and_false (same_path o.cursor.path o.cursor.path)),
+  );
 }
 
 -- ---- below the target

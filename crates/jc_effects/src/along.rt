@@ -178,10 +178,7 @@ fn greater_element(next: Option<Next>, id: Id) -> Option<Id>
 }
 
 /// The key behind which the operation put its element, by the list as it was.
-fn key_before<S: TreeStore>(
-    change: &Change<'_, S>,
-    contexts: Contexts,
-) -> Result<Key, AllocError>
+fn key_before<S: TreeStore>(change: &Change<'_, S>, contexts: Contexts) -> Result<Key, AllocError>
     requires changed { IsChangedBy change.now.op.now (S.tree change.now.old.now).now (S.tree change.now.new.now).now }
     requires contexts { AreContexts (S.names change.now.old.now) (S.names change.now.new.now)
         (S.tree change.now.old.now) (S.tree change.now.new.now) change.now.op.now.cursor.path contexts }

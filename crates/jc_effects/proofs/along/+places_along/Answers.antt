@@ -9,7 +9,7 @@ use Rattle.jc_effects.proofs.along.+places_along.Goals as goal
 pub place_on_path-requires-clause-path : goal.place_on_path-requires-clause-path
 place_on_path-requires-clause-path g t c =
     let path = c.as_slice-path.result.now in
-    let within : c.args.depth < length path = omega arith in
+    let within : c.args.depth < length path = omega (arith, ap length c.as_slice-path.ensures.keys) in
     (drop (c.args.depth + 1) path, sym c.as_slice-path.ensures.keys ∙ split_at path c.args.depth c.index-path-depth.result within c.index-path-depth.is)
 
 pub place_on_path-requires-clause-inside : goal.place_on_path-requires-clause-inside
@@ -17,7 +17,7 @@ place_on_path-requires-clause-inside g t c =
     let old = (g.S.TreeStore.tree c.args.change.now.old.now).now in
     let new = (g.S.TreeStore.tree c.args.change.now.new.now).now in
     let path = c.as_slice-path.result.now in
-    let within : c.args.depth < length path = omega arith in
+    let within : c.args.depth < length path = omega (arith, ap length c.as_slice-path.ensures.keys) in
     let longer : take (c.args.depth + 1) c.args.change.now.op.now.cursor.path ≡ take c.args.depth path ++ c.index-path-depth.result ∷ [] =
     ap (take (c.args.depth + 1)) (sym c.as_slice-path.ensures.keys) ∙ longer_at path c.args.depth c.index-path-depth.result within c.index-path-depth.is in
     below_longer (take c.args.depth path) c.index-path-depth.result old new (differences_of c.in_ok-effects.effects)

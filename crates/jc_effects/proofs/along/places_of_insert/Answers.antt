@@ -24,7 +24,7 @@ returns-then-is_lt g c =
     subst (λ (p : List Tagged). IsDifferenceAmong (K.Elem o.id ∷ []) (seen p old) (seen p new) (differences_of c.in_ok-rest.rest)) c.requires.path (c.in_ok-rest.ensures [] tt (none_among _ _)) in
     IfOk-weaker c.place_of_link.result _ _
     (λ e f. subst (λ (p : List Tagged). IsDifference (seen p old) (seen p new) (differences_of e)) (sym c.requires.path)
-        (link_first o old new c.requires.changed c.requires.inserts k c.in_ok-before.ensures (differences_of e) (f (K.Elem o.id ∷ []) (lesser, tt) among)))
+    (link_first o old new c.requires.changed c.requires.inserts k c.in_ok-before.ensures (differences_of e) (f (K.Elem o.id ∷ []) (lesser, tt) among)))
     c.place_of_link.ensures
 
 pub place_of_link-requires-else-is_lt-clause-other : goal.place_of_link-requires-else-is_lt-clause-other
@@ -43,6 +43,6 @@ returns g c =
     subst (λ (p : List Tagged). IsDifferenceAmong (k ∷ []) (seen p old) (seen p new) (differences_of c.in_ok-rest-2.rest)) (sym c.requires.path) (c.in_ok-rest-2.ensures [] tt (none_among _ _)) in
     IfOk-weaker c.place_at_target-else-is_lt.result _ _
     (λ e f. subst (λ (p : List Tagged). IsDifference (seen p old) (seen p new) (differences_of e)) (sym c.requires.path)
-        (element_first o old new c.requires.changed c.requires.inserts k c.in_ok-before.ensures (differences_of e)
-        (subst (λ (p : List Tagged). IsDifferenceAmong (K.Elem o.id ∷ k ∷ []) (seen p old) (seen p new) (differences_of e)) c.requires.path (f (k ∷ []) (lesser, tt) among))))
+    (element_first o old new c.requires.changed c.requires.inserts k c.in_ok-before.ensures (differences_of e)
+    (subst (λ (p : List Tagged). IsDifferenceAmong (K.Elem o.id ∷ k ∷ []) (seen p old) (seen p new) (differences_of e)) c.requires.path (f (k ∷ []) (lesser, tt) among))))
     c.place_at_target-else-is_lt.ensures

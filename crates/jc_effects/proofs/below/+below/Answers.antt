@@ -104,8 +104,7 @@ places_below-loop-lent-preserved g t c =
     let left : keys_lent c.loop-lent.keys.items ≡ keys_lent c.pop.new.self.items ++ k ∷ [] = ap keys_lent was ∙ lent_last c.pop.new.self.items c.in-Some.lent in
     let passed = subst (λ (ks : List Key). PassedBack (keys_lent c.in_ok-keys.keys.items) ks (seen at old) (seen at new) (differences_of c.loop-lent.effects)) left c.loop-lent.invariant.1 in
     let step : (ks : List Key) → AreLater k ks → IsDifferenceAmong ks (seen at old) (seen at new) (differences_of c.loop-lent.effects) → IsDifferenceAmong (k ∷ ks) (seen at old) (seen at new) (differences_of c.in_ok-effects.effects) =
-    subst (λ (p : List Tagged). (ks : List Key) → AreLater k ks → IsDifferenceAmong ks (seen p old) (seen p new) (differences_of c.loop-lent.effects) → IsDifferenceAmong (k ∷ ks) (seen p old) (seen p new) (differences_of c.in_ok-effects.effects)) c.loop-lent.invariant.0 c.in_ok-effects.ensures.difference in
-    (
+    subst (λ (p : List Tagged). (ks : List Key) → AreLater k ks → IsDifferenceAmong ks (seen p old) (seen p new) (differences_of c.loop-lent.effects) → IsDifferenceAmong (k ∷ ks) (seen p old) (seen p new) (differences_of c.in_ok-effects.effects)) c.loop-lent.invariant.0 c.in_ok-effects.ensures.difference in (
       c.in_ok-effects.ensures.path ∙ c.loop-lent.invariant.0,
       passed_one (keys_lent c.in_ok-keys.keys.items) (keys_lent c.pop.new.self.items) k (seen at old) (seen at new) (differences_of c.loop-lent.effects) (differences_of c.in_ok-effects.effects) c.in_ok-keys.ensures.rising passed step,
     )

@@ -19,6 +19,6 @@ returns c =
     subst (λ (is : List Id). Gains c.args.out.now c.write_ids.new.out (labelled_tokens (some_ids names (codes "gained") is))) c.as_slice.ensures.value c.in_ok-write_ids.ensures in
     on_ok_weaker c.string.result
     (λ e. labelled_then _ _ _ (some_ids names (codes "gained") c.args.own.now.gained.items) ((codes "key", string key) ∷ []) ids
-        (labelled_one _ _ _ (codes "key") (string key) (gains_one _ _ _ _ _ c.in_ok-key.was c.key.ensures)
-        (subst (λ (s : List ℕ). Gains c.key.new.self c.string.new.self (T.string s ∷ [])) (c.as_str.ensures.value ∙ c.in_ok-text.ensures) (record { before = c.string.ensures.room.0; tokens = e }))))
+    (labelled_one _ _ _ (codes "key") (string key) (gains_one _ _ _ _ _ c.in_ok-key.was c.key.ensures)
+    (subst (λ (s : List ℕ). Gains c.key.new.self c.string.new.self (T.string s ∷ [])) (c.as_str.ensures.value ∙ c.in_ok-text.ensures) (record { before = c.string.ensures.room.0; tokens = e }))))
     c.string.ensures.ok
