@@ -4,6 +4,7 @@ and ./test --built."""
 import calendar
 import contextlib
 import os
+import pickle
 import re
 import shutil
 import subprocess
@@ -11,9 +12,11 @@ import time
 
 from cases import IN_TEST, expect, expect_same, folder_of, place, stored
 from crates import BUILT, lack_of_built
-from statements import statements_of
+from dependencies import Kept, Tree
+from statements import Source, Theory, sum_of
 
-# A command rt for which an edit comes to what its file has, and a crate isn't proved that has a file `unproved`.
+# A command rt for which an edit comes to what its file has beside its pairs of lines. A crate isn't proved that has a
+# file `unproved`.
 TRYING = """#!/bin/sh
 case $1 in
     version) cat "${0%/*}/kit" ;;
@@ -25,9 +28,10 @@ case $1 in
             shift
         fi
         ended=0
+        [ ! -e "${0%/*}/noting" ] || . "${0%/*}/noting"
         echo "rt: $1: ${KNOWN:-0} of its 2 must-fail edits were tried by an earlier run on this machine"
         for edit in crates/"$1"/must-fail/*.edit; do
-            told=$(cat "$edit")
+            told=$(grep -v -e "^file: " -e "^old: " -e "^new: " "$edit")
             echo "rt: must-fail $1/${edit##*/}: $told"
             case $told in refused*) ;; *) ended=1 ;; esac
         done
@@ -52,11 +56,13 @@ FILES = {
     "HANDLES": "Handles allowed: none.\n",
     "kit": "kit one\n",
     **{f"crates/{name}/src/lib.rt": SOURCE for name in NAMES},
-    **{f"crates/{name}/{part}": f"{name} {part}\n" for name in NAMES for part in ("specs/Lib.antt", "proofs/Lib.antt")},
+    **{f"crates/{name}/specs/Lib.antt": "abbrev pub two : N\ntwo = 2\n" for name in NAMES},
+    **{f"crates/{name}/proofs/lib/Answers.antt": "pub two : N\ntwo = 2\n" for name in NAMES},
     **{f"crates/{name}/more-edits/{edit}.edit": REFUSED for name in NAMES for edit in ("one", "two")},
     "crates/jc_b/must-fail/of_the_gate.edit": NOT_REFUSED,
 }
 RECORD = "dev/more-edits.txt"
+PROGRESS = r"^more-edits: (\w+): (\d+) edits tried in \d+ s; (\d+) are left, and (\d+) of other crates\n"
 # What a run that tries the edits of a crate tells.
 KNOWN = "rt: {}: 0 of its 2 must-fail edits were tried by an earlier run on this machine\n"
 TRIED = {name: KNOWN.format(name) + "".join(f"rt: must-fail {name}/{edit}.edit: {REFUSED}" for edit in ("one", "two"))
@@ -76,8 +82,9 @@ def more_edits(folder, *words):
 
 
 def expect_end(folder, words, status, output="", told=""):
-    """dev/more-edits ends so, and tells this on its streams."""
+    """dev/more-edits ends so, and tells this on its streams, beside how far it is."""
     ended = more_edits(folder, *words)
+    ended = *ended[:2], re.sub(PROGRESS, "", ended[2], flags=re.MULTILINE)
     expect(ended == (status, output, told), f"{words} ended with {ended[0]}, and told\n{ended[1]}{ended[2]}")
 
 
@@ -85,9 +92,8 @@ def expect_end(folder, words, status, output="", told=""):
 def crates():
     """A folder with three crates, each on the one before, that have edits, and with the script."""
     with folder_of({"rt": TRYING, "dev/more-edits": stored("dev/more-edits")}) as folder:
-        for path in ("dev/statements.py", "tools/crates.py", "python/jsoncrdt/__init__.py",
-                     "python/jsoncrdt/choosing.py", "python/jsoncrdt/oracle/__init__.py",
-                     "python/jsoncrdt/oracle/streams.py"):
+        for path in ("dev/statements.py", "dev/dependencies.py", "tools/crates.py", "python/jsoncrdt/__init__.py",
+                     "python/jsoncrdt/choosing.py", "oracle/__init__.py", "oracle/streams.py"):
             write(folder, path, stored(path))
         for path, text in FILES.items():
             write(folder, path, text)
@@ -120,9 +126,16 @@ def line_by_hand(folder):
     before = read(folder, RECORD)
     append("crates/jc_b/src/lib.rt")(folder)
     more_edits(folder)
-    line = re.search("^jc_b sources .*$", read(folder, RECORD), re.MULTILINE)[0]
+    line = re.search("^jc_b edit one .*$", read(folder, RECORD), re.MULTILINE)[0]
     write(folder, RECORD, before)
-    replace(folder, RECORD, "^jc_b sources .*$", line)
+    replace(folder, RECORD, "^jc_b edit one .*$", line)
+
+
+def short_by_hand(folder):
+    """Of what an edit stands on only the first sum is left, with the right sum of the crate's lines."""
+    replace(folder, RECORD, r"^(jc_b edit one \w{12})\S+", r"\1")
+    lines = re.findall("^jc_b edit .*$", read(folder, RECORD), re.MULTILINE)
+    replace(folder, RECORD, "^jc_b tried .*$", f"jc_b tried {sum_of('more-edits', *lines)}")
 
 
 def verdict_by_hand(folder):
@@ -136,34 +149,38 @@ def moved(folder):
     shutil.move(f"{folder}/crates/jc_b/more-edits/one.edit", f"{folder}/crates/jc_b/must-fail")
 
 
-BELOW = "statements or definitions below it changed"
+def wanting(*edits, of=2):
+    return f"{len(edits)} of its {of} edits want trying: {', '.join(edits)}"
+
+
 OWN = "run dev/more-edits {}, and mend what it doesn't find refused"
 NO_RUN = "no run wrote what is recorded of it"
-# What is changed when all edits were tried, and what the check then tells of which crate.
+BOTH = wanting("one", "two")
+# What is changed when all edits were tried, and what the check then tells of which crate. These edits change more than
+# functions, for all that can be seen, so each stands on all of its crate and on all statements below.
 HOLES = {
-    "a source": (append("crates/jc_b/src/lib.rt"), {"jc_b": "its sources changed", "jc_c": BELOW}),
-    "a body": (lambda folder: replace(folder, "crates/jc_b/src/lib.rt", "^    1$", "    2"),
-               {"jc_b": "its sources changed"}),
+    "a source": (append("crates/jc_b/src/lib.rt"), {"jc_b": BOTH, "jc_c": BOTH}),
+    "a body": (lambda folder: replace(folder, "crates/jc_b/src/lib.rt", "^    1$", "    2"), {"jc_b": BOTH}),
     "a clause": (lambda folder: replace(folder, "crates/jc_b/src/lib.rt", "≡ 1", "≡ 2"),
-                 {"jc_b": "its sources changed", "jc_c": BELOW}),
-    "a test below": (lambda folder: write(folder, "crates/jc_b/src/tests.rt", SOURCE), {"jc_b": "its sources changed"}),
-    "a definition": (append("crates/jc_a/specs/Lib.antt"),
-                     {"jc_a": "its definitions changed", "jc_b": BELOW, "jc_c": BELOW}),
-    "a file of definitions more": (lambda folder: write(folder, "crates/jc_b/specs/New.antt", ""),
-                                   {"jc_b": "its definitions changed", "jc_c": BELOW}),
-    "a proof": (append("crates/jc_b/proofs/Lib.antt"), {"jc_b": "its proofs changed"}),
-    "an edit": (append("crates/jc_b/more-edits/two.edit"), {"jc_b": "two wasn't tried as it is"}),
+                 {"jc_b": BOTH, "jc_c": BOTH}),
+    "a definition": (append("crates/jc_a/specs/Lib.antt"), {name: BOTH for name in NAMES}),
+    "a file of definitions more": (lambda folder: write(folder, "crates/jc_b/specs/New.antt", "abbrev pub new : N\n"),
+                                   {"jc_b": BOTH, "jc_c": BOTH}),
+    "a proof": (append("crates/jc_b/proofs/lib/Answers.antt"), {"jc_b": BOTH}),
+    "an edit": (append("crates/jc_b/more-edits/two.edit"), {"jc_b": wanting("two")}),
     "an edit more": (lambda folder: write(folder, "crates/jc_b/more-edits/three.edit", REFUSED),
-                     {"jc_b": "three wasn't tried as it is"}),
+                     {"jc_b": wanting("three", of=3)}),
     "an edit less": (moved, {"jc_b": "one is recorded and isn't there"}),
     "no folder of edits": (lambda folder: shutil.rmtree(f"{folder}/crates/jc_b/more-edits"),
                            {"jc_b": "it is recorded, and has no edits any more"}),
-    "crates.txt": (lambda folder: replace(folder, "crates.txt", "^jc_b: ", "jc_b may_wait=1: "),
-                   {name: "crates.txt changed, of it or of a crate below" for name in ("jc_b", "jc_c")}),
+    "crates.txt": (lambda folder: replace(folder, "crates.txt", "^jc_b: ", "jc_b may_wait=1: "), {"jc_b": BOTH}),
+    "a crate less below": (lambda folder: replace(folder, "crates.txt", "^jc_b: jc_a ", "jc_b: "),
+                           {"jc_b": BOTH, "jc_c": BOTH}),
     "a crate that crates.txt hasn't": (lambda folder: replace(folder, "crates.txt", "^jc_c: jc_b\n", ""),
                                        {"jc_c": "crates.txt hasn't this crate"}),
-    "another kit": (append("kit"), {name: "the kit is another" for name in NAMES}),
-    "a sum by hand": (line_by_hand, {"jc_b": NO_RUN, "jc_c": BELOW}),
+    "another kit": (append("kit"), {name: BOTH for name in NAMES}),
+    "a sum by hand": (line_by_hand, {"jc_b": NO_RUN, "jc_c": BOTH}),
+    "a shorter line by hand": (short_by_hand, {"jc_b": wanting("one")}),
     "a verdict by hand": (verdict_by_hand, {"jc_b": NO_RUN}),
     "a line less": (lambda folder: replace(folder, RECORD, "^jc_b edit two .*\n", ""), {"jc_b": NO_RUN}),
     "no sum of the lines": (lambda folder: replace(folder, RECORD, "^jc_b tried .*\n", ""), {"jc_b": NO_RUN}),
@@ -173,23 +190,374 @@ HOLES = {
 }
 
 
-# Sources, and what they state.
+# Files, with whether only statements of lemmas count there, and what they state: of each item its names and its text.
+LEMMAS = """-- About them.
+use Rattle.jc_a.specs.Ones.{one}
+
+-- why
+pub lem-one : (n : N)
+  → one n
+unfolding one
+lem-one n = n
+
+abbrev two : N
+two = 2
+
+module _ (n : N) where
+  -- why
+  pub three : N
+  three = n
+
+module Named where
+  pub four : N
+  four = 4
+
+mutual
+  pub data Tree : Type where
+    leaf : Tree
+
+more
+"""
 STATED = (
-    (SOURCE, "pub fn one() -> u8\n    ensures { result ≡ 1 }\n{\n\n"),
-    ("fn two(a: u8) {\n    three(a);\n\n    four();\n}\n\nfn five();\n", "fn two(a: u8) {\n\n\nfn five();\n"),
-    ("/// It is\nconst A: u8 = 1;\n// why\nuse b;\n", "const A: u8 = 1;\nuse b;\n"),
-    ("impl A {\n    pub(crate) fn b(\n        c: u8,\n    ) -> u8\n        ensures {\n            d\n        }\n    {\n"
-     "        if c {\n        }\n    }\n\n    fn e() {\n        1\n    }\n}\n",
-     "impl A {\n    pub(crate) fn b(\n        c: u8,\n    ) -> u8\n        ensures {\n            d\n        }\n    {\n"
-     "\n\n    fn e() {\n\n}\n"),
-    ("pub trait A {\n    fn b() {\n        1\n    }\n}\nfn c() {\n    1\n}\n",
-     "pub trait A {\n    fn b() {\n        1\n    }\n}\nfn c() {\n\n"),
-    ("fn a() -> u8 {\n1\n}\n", "fn a() -> u8 {\n1\n}\n"),
+    (SOURCE, [(["one"], "pub fn one() -> u8\n    ensures { result ≡ 1 }\n{\n")]),
+    ("fn two(a: u8) {\n    three(a);\n\n    four();\n}\n\nfn five();\n",
+     [(["two"], "fn two(a: u8) {\n"), (["five"], "fn five();\n")]),
+    ("/// It is\n#[derive(A)]\n#[b]\nconst A: u8 = 1;\n// why\nuse b::c;\npub use d::{e, F as g};\n#[cfg(test)]\n"
+     "mod t;\n",
+     [(["A"], "#[derive(A)]\n#[b]\nconst A: u8 = 1;\n"), (["e"], "pub use d::e as e"), (["g"], "pub use d::F as g")]),
+    ("impl<K: S> T<A> for B<K> {\n    type C = u8;\n\n    pub(crate) fn b(\n        c: u8,\n    ) -> u8\n"
+     "        ensures {\n            d\n        }\n    {\n        if c {\n        }\n    }\n\n    fn e() {\n        1\n"
+     "    }\n}\n",
+     [(None, "impl<K: S> T<A> for B<K> {\n    type C = u8;\n"),
+      (["b"], "    pub(crate) fn b(\n        c: u8,\n    ) -> u8\n        ensures {\n            d\n        }\n"
+              "    {\n"),
+      (["e"], "    fn e() {\n")]),
+    ("pub trait A {\n    type B;\n    fn b() {\n        1\n    }\n    fn d();\n}\nfn c() {\n    1\n}\n",
+     [(["A"], "pub trait A {\n    type B;\n"), (["b"], "    fn b() {\n        1\n    }\n"),
+      (["d"], "    fn d();\n"), (["c"], "fn c() {\n")]),
+    ("fn a() -> u8 {\n1\n}\n", [(["a"], "fn a() -> u8 {\n1\n}\n")]),
+    ("fn a() {\n    1\n}\nmore\n", [(["a"], "fn a() {\n    1\n}\nmore\n")]),
+    ("more\nfn a() {\n    1\n}\n", [(None, "more\n"), (["a"], "fn a() {\n")]),
+)
+DEFINED = (
+    (True, [(["lem-one"], "pub lem-one : (n : N)\n  → one n\n"), (["two"], "abbrev two : N\ntwo = 2\n"),
+            (["three"], "module _ (n : N) where\n  pub three : N\n"),
+            (["Named"], "module Named where\n  pub four : N\n  four = 4\n"),
+            (["Tree", "leaf"], "mutual\n  pub data Tree : Type where\n    leaf : Tree\nmore\n")]),
+    (False, [(["lem-one"], "pub lem-one : (n : N)\n  → one n\nunfolding one\nlem-one n = n\n"),
+             (["two"], "abbrev two : N\ntwo = 2\n"),
+             (["three"], "module _ (n : N) where\n  pub three : N\n  three = n\n"),
+             (["Named"], "module Named where\n  pub four : N\n  four = 4\n"),
+            (["Tree", "leaf"], "mutual\n  pub data Tree : Type where\n    leaf : Tree\nmore\n")]),
 )
 
 
-def statement_case(source, stated):
-    return f"more-edits: statements of {source!r}", lambda _: expect_same(statements_of(source), stated)
+# A source with these imports, texts of it, and the names of items that they mention.
+IMPORTS = """use jc_a::deep::{Pair, far as near_by};
+ghost use Rattle.jc_a.specs.Ones.{is_one, ◌⊑◌};
+ghost use Rattle.jc_a.specs.declared.deep.Pair.TheVariants as P;
+ghost use Rattle.jc_a.specs.Twos as twos;
+
+fn own() {
+    1
+}
+"""
+MENTIONED = (
+    ("near_by(x)", "far near_by"),
+    ("own() + other()", "own"),
+    ("pair.first.second().third", "second"),
+    ("pair.first::<u8>()", "first"),
+    ("Pair::<u8>::new(1)", "Pair new"),
+    ("<Pair as Show>::show", "Pair show"),
+    ("Pair::new, jc_a::deep::far", "Pair new far jc_a"),
+    ("a..pair.len()", "len"),
+    ("is_one result.now", "Rattle.jc_a.specs.Ones Rattle.jc_a.specs.Ones.is_one"),
+    ("a ⊑ b", "Rattle.jc_a.specs.Ones Rattle.jc_a.specs.Ones.◌⊑◌"),
+    ("P.Left", "Left Pair TheVariants"),
+    ("twos.four", "Rattle.jc_a.specs.Twos Rattle.jc_a.specs.Twos.four"),
+    ("Rattle.jc_b.proofs.Some.lem x", "Rattle.jc_b.proofs.Some Rattle.jc_b.proofs.Some.lem"),
+    ("#[tactic(auto, using(crate::proofs::Some::lem))]",
+     "Some lem crate Rattle.jc_b.proofs.Some Rattle.jc_b.proofs.Some.lem"),
+)
+
+
+def mentioned_case(text, names):
+    scope = Source("jc_b/src/lib.rt", IMPORTS).read().scope
+    return f"more-edits: names in {text}", lambda _: expect_same(scope.mentioned(text)[0] - {"◌"}, {*names.split()})
+
+
+def stated(reader):
+    """What a reader of a file finds there."""
+    return [(names and sorted(name.rpartition(".")[2] for name in names), text.replace(" \n", "\n"))
+            for names, _, _, text, *_ in reader.items]
+
+
+def source_case(source, items):
+    return f"more-edits: statements of {source!r}", lambda _: expect_same(stated(Source("a/src/lib.rt", source)), items)
+
+
+def theory_case(is_proof, items):
+    path = "a/proofs/L.antt" if is_proof else "a/specs/L.antt"
+    return f"more-edits: statements of {path}", lambda _: expect_same(stated(Theory(path, LEMMAS, is_proof)), items)
+
+
+# Three crates of which the last one has edits.
+LOWEST = """#![tactic(auto)]
+ghost use Rattle.jc_a.specs.Ones.{is_one};
+
+use std::fmt::Display;
+
+pub trait Shows {
+    ghost shown: { Self → N };
+
+    fn show(&self) -> u8
+        ensures { result ≡ 4 };
+
+    fn hide(&self) -> u8;
+}
+
+pub struct Pair {
+    first: u8,
+}
+
+impl Display for Pair {
+    fn fmt(&mut self)
+        ensures { is_one 1 }
+    {
+        5
+    }
+}
+
+impl Shows for Pair {
+    fn show(&self) -> u8 {
+        6
+    }
+}
+
+impl Pair {
+    pub fn first(&self) -> u8
+        ensures { is_one result }
+    {
+        self.first
+    }
+
+    pub fn other(&self) -> u8
+        ensures { result ≡ 3 }
+    {
+        8
+    }
+}
+
+pub fn far() -> Pair
+    ensures { is_one result.first }
+{
+    Pair { first: 9 }
+}
+
+pub fn unused() -> u8
+    ensures { result ≡ 7 }
+{
+    7
+}
+"""
+HIGHEST = """use jc_b::middle;
+
+pub const MOST: u8 = 3;
+
+pub struct Held;
+
+pub fn top() -> u8
+    ensures { result ≡ 1 }
+{
+    let pair = middle();
+    pair.first()
+}
+
+pub fn near() -> u8
+    ensures { result ≡ 2 }
+{
+    2
+}
+
+#[cycle(round)]
+fn ping() -> u8 {
+    pong()
+}
+
+#[cycle(round)]
+fn pong() -> u8 {
+    ping()
+}
+"""
+REACHING = {
+    "crates/jc_a/src/lib.rt": LOWEST,
+    "crates/jc_a/specs/Ones.antt": "abbrev pub is_one : N → Type 0\nis_one n = n ≡ one\n\nabbrev pub one : N\n"
+                                   "one = 1\n\nabbrev pub two : N\ntwo = 2\n",
+    "crates/jc_a/proofs/Lemmas.antt": "pub lem : N\nlem = 1\n\npub free : N\nfree = 2\n",
+    "crates/jc_b/src/lib.rt": "use jc_a::{Pair, far};\n\npub fn middle() -> Pair\n    ensures { true }\n{\n    far()\n"
+                              "}\n",
+    "crates/jc_c/src/lib.rt": HIGHEST,
+    "crates/jc_c/proofs/top/Answers.antt": "use Rattle.jc_a.proofs.Lemmas.{lem}\n\nreturns : goal.returns\n"
+                                           "returns c = lem\n",
+    "crates/jc_c/proofs/near/Answers.antt": "returns : goal.returns\nreturns c = refl\n",
+    "crates/jc_c/src/more.rt": "use crate::Held;\n\nimpl Held {\n    fn hold(&self) -> u8 {\n        6\n    }\n}\n",
+    "crates/jc_c/proofs/Held/hold/Answers.antt": "returns : goal.returns\nreturns c = refl\n",
+    "crates/jc_c/proofs/+round/Answers.antt": "returns : goal.returns\nreturns c = refl\n",
+    "crates/jc_c/more-edits/hold.edit": f"{REFUSED}file: src/more.rt\nold:         6\nnew:         7\n",
+    **{f"crates/jc_c/more-edits/{name}.edit": f"{REFUSED}file: src/lib.rt\n{pairs}" for name, pairs in {
+        "both": "old:     pair.first()\nnew:     3\nfile: src/lib.rt\nold:     2\nnew:     4\n",
+        "line": "old: u8 = 3\nnew: u8 = 4\n",
+        "near": "old:     2\nnew:     3\n",
+        "ping": "old:     pong()\nnew:     5\n",
+        "top": "old:     pair.first()\nnew:     2\n"}.items()},
+}
+A, C = "crates/jc_a/src/lib.rt", "crates/jc_c/src/lib.rt"
+DEFINITIONS, PROOFS = "crates/jc_a/specs/Ones.antt", "crates/jc_a/proofs/Lemmas.antt"
+EACH = ["both", "hold", "line", "near", "ping", "top"]
+OF_TOP = ["both", "line", "top"]
+# What is changed, where, and which edits then want trying. One changes a line outside of functions: it stands on all of
+# its crate and on all statements below.
+REACHED = {
+    "a contract that only a body below uses": (A, "is_one result.first }", "true }", ["line"]),
+    "a contract that isn't reached": (A, "result ≡ 7", "result ≡ 8", ["line"]),
+    "a body below": (A, "Pair . first: 9 .", "Pair { first: 1 }", []),
+    "a contract two crates below": (A, "is_one result }", "true }", OF_TOP),
+    "a method that isn't called": (A, "result ≡ 3", "result ≡ 4", ["line"]),
+    "a function more": (A, r"\Z", "\n" + SOURCE, ["line"]),
+    "a function more of a name that is used": (A, r"\Z", "\n" + SOURCE.replace("one()", "middle()"), OF_TOP),
+    "a method of a trait more": (A, "    fn hide", "    fn seek(&self) -> u8;\n\n    fn hide", ["line"]),
+    "a method of a trait": (A, "result ≡ 4", "result ≡ 5", ["line"]),
+    "what a trait has beside its methods": (A, "Self → N", "Self → B", OF_TOP),
+    "a trait for a type": (A, "impl Shows for Pair {", "impl Shows for Pair {\n    type A = u8;", OF_TOP),
+    "an impl of another's trait": (A, "is_one 1", "is_one 2", OF_TOP),
+    "a body in an impl of another's trait": (A, "        5", "        6", []),
+    "an impl of another's trait more": (A, r"\Z", "\nimpl Drop for Pair {}\n", OF_TOP),
+    "an impl of no type that is used": (A, r"\Z", "\npub struct New;\n\nimpl Drop for New {}\n", ["line"]),
+    "an impl for all types": (A, r"\Z", "\nimpl<T: Copy> Drop for T {}\n", EACH),
+    "the type of a field": (A, "    first: u8,", "    first: u16,", OF_TOP),
+    "a definition of a definition": (DEFINITIONS, "^one = 1", "one = 5", OF_TOP),
+    "a definition that isn't reached": (DEFINITIONS, "^two = 2", "two = 5", ["line"]),
+    "a definition more": (DEFINITIONS, r"\Z", "\nabbrev pub ten : N\nten = 10\n", ["line"]),
+    "a lemma": (PROOFS, "lem : N", "lem : B", OF_TOP),
+    "a lemma's proof": (PROOFS, "^lem = 1", "lem = 5", []),
+    "a lemma more": (PROOFS, r"\Z", "\npub more : N\nmore = 3\n", ["line"]),
+    "a text that isn't understood": (A, r"\A", "more\n", EACH),
+    "what an import leads to": (C, "jc_b::middle", "jc_b::other::middle", OF_TOP),
+    "the function's contract": (C, "≡ 1", "≡ 2", OF_TOP),
+    "the function's body": (C, "^    let pair", "    let one = 1;\n    let pair", OF_TOP),
+    "the body of a function of its cycle": (C, r"^    ping\(\)", "    let one = 1;\n    ping()", ["line", "ping"]),
+    "the proof of its cycle": ("crates/jc_c/proofs/+round/Answers.antt", "= refl", "= (refl)", ["line", "ping"]),
+    "the proof of a method, beside its type": ("crates/jc_c/proofs/Held/hold/Answers.antt", "= refl", "= (refl)",
+                                               ["hold", "line"]),
+    "an attribute of a module": (C, r"\A", "#[tactic(auto)]\nmod more;\n", EACH),
+    "another function's body": (C, "^    2$", "    let one = 1;\n    2", ["both", "line", "near"]),
+    "an attribute of all functions": (C, r"\A", "#![tactic(auto)]\n", EACH),
+    "the function's proof": ("crates/jc_c/proofs/top/Answers.antt", "= lem", "= (lem)", OF_TOP),
+    "another function's proof": ("crates/jc_c/proofs/near/Answers.antt", "= refl", "= (refl)",
+                                 ["both", "line", "near"]),
+    "a test below": ("crates/jc_a/src/tests.rt", None, SOURCE, []),
+}
+
+
+@contextlib.contextmanager
+def reaching():
+    """A folder with these crates, whose edits were tried."""
+    with crates() as folder:
+        for name in NAMES:
+            shutil.rmtree(f"{folder}/crates/{name}")
+        for path, text in REACHING.items():
+            write(folder, path, text)
+        expect_same(more_edits(folder)[0], 0)
+        expect_end(folder, ["--check"], 0)
+        yield folder
+
+
+def reached_case(what):
+    """Where this is changed, those edits want trying that can depend on it, and no others."""
+    path, pattern, text, edits = REACHED[what]
+
+    def tried(_):
+        with reaching() as folder:
+            if pattern is None:
+                write(folder, path, text)
+            else:
+                replace(folder, path, pattern, text)
+            wrong = {"jc_c": wanting(*edits, of=6)} if edits else {}
+            expect_end(folder, ["--check"], int(bool(edits)), "", told_of(wrong) if edits else "")
+
+    return f"more-edits: --check and {what}", tried
+
+
+# What is changed, and what is then told of the edit of the function.
+WHYS = (
+    (append("crates/jc_c/more-edits/top.edit"), "the edit changed"),
+    (lambda folder: replace(folder, C, "^    let", "    let one = 1;\n    let"),
+     "the function that it changes, or a proof of that changed"),
+    (lambda folder: replace(folder, C, "≡ 1", "≡ 2"),
+     "the function that it changes, or a proof of that and a statement that it can depend on changed"),
+    (lambda folder: replace(folder, DEFINITIONS, "^one = 1", "one = 5"), "a statement that it can depend on changed"),
+    (append("kit"), "the kit or the crate's line of crates.txt changed"),
+    (lambda folder: write(folder, "crates/jc_c/more-edits/top2.edit", REFUSED), "wasn't tried"),
+)
+
+
+def tells_why(_):
+    """With --why it is told of each edit what changed."""
+    for change, why in WHYS:
+        with reaching() as folder:
+            change(folder)
+            status, _, told = more_edits(folder, "--why", "jc_c")
+            expect(status == 1 and re.search(rf"\btop2? \({why}\)", told), told)
+
+
+def needs_no_kept(_):
+    """What was worked out before is taken only if it is whole and of these scripts, and is written anew then."""
+    kept = "build/more-edits.pickle"
+    with reaching() as folder:
+        with open(f"{folder}/{kept}", "rb") as file:
+            whole = file.read()
+        scripts, found = pickle.loads(whole)
+        for text in (whole[:-9], b"", b"more", pickle.dumps(("other scripts", {"more": 1})), pickle.dumps({})):
+            with open(f"{folder}/{kept}", "wb") as file:
+                file.write(text)
+            expect_end(folder, ["--check"], 0)
+            with open(f"{folder}/{kept}", "rb") as file:
+                again = pickle.load(file)
+            expect((again[0], again[1].keys()) == (scripts, found.keys()), f"{text[:20]}: {again[0]}")
+        replace(folder, "dev/statements.py", r"\Z", "# another version\n")
+        expect_end(folder, ["--check"], 0)
+        with open(f"{folder}/{kept}", "rb") as file:
+            expect(pickle.load(file)[0] != scripts, "what other scripts worked out stays")
+
+
+# Modules that rt makes: of the function beside which an answer is, or of a type.
+MADE = re.compile(r"\.(Goals|Given|The[A-Z]\w*)(\.|$)")
+
+
+def understands_all(_):
+    """Each name of a definition or a lemma that one of our crates has by an import leads to an item or a file there,
+    all of them is understood, and each answer is one of a function. What leads nowhere would be missed where it
+    changes."""
+    tree = Tree(".", "", Kept(os.devnull))
+    files = [(name, path, file) for name in tree.crates for path, file in tree.files(name).items()]
+    items = {each for *_, file in files for item in file.items for each in item.names or ()}
+    modules = {f"Rattle.{name}.{path.removesuffix('.antt').replace('/', '.')}" for name, path, _ in files}
+    lost = set()
+    for name, path, file in files:
+        imports = {at for found in file.scope.imports.values() for at in found} | {at for _, at in file.scope.operators}
+        for at in imports:
+            steps = at.split(".")
+            ours = len(steps) > 3 and steps[1] in tree.crates and not {"declared", "contracts"} & {*steps}
+            leads = at in modules or any(".".join(steps[:end]) in items for end in range(5, len(steps) + 1))
+            if ours and not leads and not MADE.search(at):
+                lost.add(f"{at} in {name}/{path}")
+        lost |= {f"{name}/{path}" for item in file.items if not item.names and item.owners is None}
+    for name in tree.crates:
+        found = {proof for path, file in tree.files(name).items() for item in file.items if item.place
+                 for proof in tree.proofs(name, path, item)}
+        lost |= {f"{name}/{path}" for path in tree.texts(name)
+                 if path.startswith("proofs/") and path.count("/") > 1 and path not in found}
+    expect(len(items) > 9000 and not lost, f"{len(items)} items; {sorted(lost)[:9]}")
 
 
 def told_of(wrong):
@@ -268,9 +636,9 @@ WORDS = (
     (NOT_REFUSED, "one is recorded as not-refused"),
     ("BAD EDIT: it did not reach the prover; the first lines of what it said:\nsrc/lib.rt:91:17: error\n",
      "one is recorded as bad"),
-    ("NOT TRIED: its check was killed\n", "one wasn't tried as it is"),
-    ("refused, as nobody has told before\n", "one wasn't tried as it is"),
-    ("as nobody has told before\n", "one wasn't tried as it is"),
+    ("NOT TRIED: its check was killed\n", wanting("one")),
+    ("refused, as nobody has told before\n", wanting("one")),
+    ("as nobody has told before\n", wanting("one")),
 )
 
 
@@ -302,10 +670,89 @@ def has_times(_):
             began = time.time() - 60
             called(folder, ["dev/more-edits", "--anew"], KNOWN=known)
             text = read(folder, RECORD)
-            lines = re.findall(r"^jc_b edit \w+ [0-9a-f]{32} refused (\S+Z) \d+s/(\d+)$", text, re.MULTILINE)
+            lines = re.findall(r"^jc_b edit \w+ [-0-9a-f]{51} refused (\S+Z) \d+s/(\d+)$", text, re.MULTILINE)
             expect([count for _, count in lines] == [tried, tried], text)
             told = [calendar.timegm(time.strptime(when, "%Y-%m-%dT%H:%MZ")) for when, _ in lines]
             expect(all(began <= each <= time.time() for each in told), f"{lines}")
+
+
+# Notes which edits are tried together, for how many processors, how many such runs there are then, and what is built in
+# the copy. Two wait for each other.
+NOTING = """at=${0%/*}
+mkdir "$at/under_way/$$"
+for second in 1 2 3 4 5 6 7 8 9 10; do
+    [ "$(ls "$at/under_way" | wc -l)" -lt "$TOGETHER" ] || break
+    sleep 1
+done
+echo "$1 ${RT_JOBS:-any} $(ls "$at/under_way" | wc -l)" $(cd "crates/$1/must-fail" && ls) >>"$at/noted"
+(cd crates && find */out -type f | sort) >"$at/built"
+sleep 0.2
+rmdir "$at/under_way/$$"
+"""
+BUILT_PARTS = {f"crates/{name}/out/{part}": "" for name in NAMES for part in (
+    f"{name}", f"rlib/{name}.rlib/format", "incremental/one/some.oantt", "incremental/one/judged")}
+
+
+def noted(folder, words, together):
+    """What is noted of the portions that these words lead to, and how far the script told to be."""
+    for name in ("noted", "under_way"):
+        shutil.rmtree(f"{folder}/{name}", ignore_errors=True)
+    write(folder, "noted", "")
+    os.mkdir(f"{folder}/under_way")
+    ended = called(folder, ["dev/more-edits", *words], TOGETHER=str(together), TMPDIR=f"{folder}/room")
+    expect(ended.returncode == 0, f"{ended}")
+    lines = [line.replace(".edit", "").split() for line in read(folder, "noted").splitlines()]
+    return lines, re.findall(PROGRESS, ended.stderr.decode(), re.MULTILINE)
+
+
+def has_portions(_):
+    """Edits are tried in portions, of 8 at most, so many at once as it was asked for, each in a copy that goes."""
+    with crates() as folder:
+        for path, text in {**BUILT_PARTS, "noting": NOTING, "room/kept": ""}.items():
+            write(folder, path, text)
+        for number in range(17):
+            write(folder, f"crates/jc_b/more-edits/edit{number:02}.edit", REFUSED)
+        lines, told = noted(folder, ["jc_b"], 1)
+        expect_same([line[:3] for line in lines], [["jc_b", "any", "1"]] * 3)
+        expect_same([len(line[3:]) for line in lines], [7, 6, 6])
+        expect_same(sorted(edit for line in lines for edit in line[3:]),
+                    sorted(["one", "two", *(f"edit{number:02}" for number in range(17))]))
+        expect_same(told, [("jc_b", "7", "12", "0"), ("jc_b", "6", "6", "0"), ("jc_b", "6", "0", "0")])
+        expect_same(read(folder, "built").split(), [
+            "jc_a/out/rlib/jc_a.rlib/format", "jc_b/out/incremental/one/judged", "jc_b/out/incremental/one/some.oantt"])
+        append("crates/jc_b/src/lib.rt")(folder)
+        many = f"19 of its 19 edits want trying: {', '.join(f'edit{number:02}' for number in range(8))}, and 11 more"
+        expect_end(folder, ["--check", "jc_b"], 1, "", told_of({"jc_b": many}))
+        lines, _ = noted(folder, ["--anew", "jc_b"], 1)
+        expect_same([len(line[3:]) for line in lines], [19])
+        lines, _ = noted(folder, ["--jobs", "2", "jc_a", "jc_c"], 2)
+        expect_same(sorted(line[0] for line in lines), ["jc_a", "jc_a", "jc_c", "jc_c"])
+        expect_same([len(line[3:]) for line in lines], [1] * 4)
+        expect({line[1] for line in lines} == {"1"} and max(line[2] for line in lines) == "2", f"{lines}")
+        expect_end(folder, ["--check"], 0)
+        for _ in range(100):
+            if os.listdir(f"{folder}/room") == ["kept"]:
+                break
+            time.sleep(0.1)
+        expect_same(os.listdir(f"{folder}/room"), ["kept"])
+
+
+# Interrupts the script where one is tried.
+INTERRUPTING = """case $(ls "crates/$1/must-fail") in *one*) kill -INT "$PPID"; exec sleep 10 ;; esac
+"""
+
+
+def keeps_portions(_):
+    """An interrupted run has recorded what came of the portions that ended, and the next one tries the others."""
+    with crates() as folder:
+        write(folder, "noting", INTERRUPTING)
+        for number in range(7):
+            write(folder, f"crates/jc_b/more-edits/a{number}.edit", REFUSED)
+        expect_same(more_edits(folder, "jc_b")[0], 130)
+        os.remove(f"{folder}/noting")
+        status, output, _ = more_edits(folder, "jc_b")
+        expect_same((status, re.findall(r"jc_b/(\w+)\.edit", output)), (0, ["a1", "a3", "a5", "one"]))
+        expect_end(folder, ["--check", "jc_b"], 0)
 
 
 def needs_rt(_):
@@ -314,25 +761,6 @@ def needs_rt(_):
         told = subprocess.run(["dev/more-edits", "--check"], cwd=folder, capture_output=True, check=False,
                               env={**os.environ, "PATH": "/usr/bin:/bin"})
         expect(told.returncode == 127 and b"rt isn't on the path" in told.stderr, f"{told}")
-
-
-# What the script before this one wrote of a crate: a sum of its own files.
-OLD = """for part in src specs proofs more-edits; do find "crates/$1/$part" -type f -print; done |
-LC_ALL=C sort | xargs sha256sum | sha256sum | cut -d ' ' -f 1"""
-
-
-def takes_old_form(_):
-    """A crate that is recorded in the old form passes while its own files are as they were; a run records it anew."""
-    with crates() as folder:
-        sums = {name: called(folder, ["sh", "-c", OLD, "sh", name]).stdout.decode() for name in NAMES}
-        write(folder, RECORD, "".join(f"{name} {sums[name]}" for name in NAMES))
-        expect_end(folder, ["--check"], 0, "more-edits: 3 crates are recorded in the old form\n")
-        append("crates/jc_b/src/lib.rt")(folder)
-        expect_end(folder, ["--check"], 1, "", told_of({"jc_b": NO_RUN}))
-        expect_end(folder, ["jc_b"], 0, TRIED["jc_b"])
-        expect_end(folder, ["--check"], 0, "more-edits: 2 crates are recorded in the old form\n")
-        shutil.rmtree(f"{folder}/crates/jc_c/more-edits")
-        expect_end(folder, ["--check"], 1, "", told_of({"jc_c": HOLES["no folder of edits"][1]["jc_b"]}))
 
 
 def gate_case(edits, gate, tests, status, output, why):
@@ -428,15 +856,24 @@ def is_built_case(change, lack):
 def gate():
     yield from map(hole_case, HOLES)
     for row in STATED:
-        yield statement_case(*row)
+        yield source_case(*row)
+    for row in MENTIONED:
+        yield mentioned_case(*row)
+    for row in DEFINED:
+        yield theory_case(*row)
+    yield from map(reached_case, REACHED)
+    yield "more-edits: --why", tells_why
+    yield "more-edits: what was worked out before", needs_no_kept
+    yield "more-edits: all that the crates state is understood", understands_all
     yield "more-edits: only what has no verdict is tried", takes_steps
     yield "more-edits: goes on behind a crate that fails", goes_on
     for row in WORDS:
         yield word_case(*row)
     yield "more-edits: a crate that isn't proved as it stands", is_proved_first
     yield "more-edits: times", has_times
+    yield "more-edits: portions", has_portions
+    yield "more-edits: an interruption", keeps_portions
     yield "more-edits: without rt", needs_rt
-    yield "more-edits: the old form of the record", takes_old_form
     for row in NEWER:
         yield newer_case(*row)
     yield is_built_case(lambda folder: None, "")
