@@ -12,7 +12,7 @@ use Rattle.jc_rules.specs.Table.{op_of}
 use Rattle.jc_rules.proofs.IdsLemmas.{same_id-true}
 use Rattle.jc_meaning.specs.Effects.{touches, clears, written_by, overwrites}
 use Rattle.jc_meaning.specs.Seen.{seen, ids_at, value_seen_at}
-use Rattle.jc_meaning.specs.Meaning.{holds_of, is_cleared, is_present, some_op, value_written, written_of}
+use Rattle.jc_meaning.specs.Meaning.{holds_of, is_cleared, some_op, written_of}
 use Rattle.jc_meaning.proofs.OperationActsLemmas.{or_else, Changes}
 use Rattle.jc_effects.specs.Laws.{IsNextTree, IsEffect}
 use Rattle.jc_effects.proofs.ElsewhereLemmas.{changes_of}

@@ -1,8 +1,6 @@
 -- About Laws: an operation leads to `Changes`, and these leave all else as it was.
-use Rattle.std.proofs.Common.{◌≡◌, List, [], ◌∷◌, Bool, true, false, not, ◌||◌, ◌&&◌, cond, Option, Some, None, is_some, ◌⊎◌, inl, inr, refl, sym, ◌∙◌, ap, subst}
-use Rattle.jc_rules.specs.declared.id.Id.{Id}
+use Rattle.std.proofs.Common.{◌≡◌, List, [], ◌∷◌, Bool, true, false, not, ◌||◌, ◌&&◌, cond, Option, Some, None, is_some, refl, ◌∙◌, ap}
 use Rattle.jc_rules.specs.declared.key.Key.{Key}
-use Rattle.jc_rules.specs.declared.key.Key.TheVariants as K
 use Rattle.jc_rules.specs.declared.key.Tagged.{Tagged}
 use Rattle.jc_rules.specs.declared.key.Tagged.TheVariants.{MapT, ListT, RegT}
 use Rattle.jc_rules.specs.declared.operation.Op.{Op}
@@ -16,14 +14,14 @@ use Rattle.jc_rules.specs.declared.operation.Mutation.{Mutation}
 use Rattle.jc_rules.specs.declared.operation.Mutation.TheVariants as M
 use Rattle.jc_rules.proofs.BoolLemmas.{first_true, second_true, both_true}
 use Rattle.jc_network.proofs.LinksKeptLemmas.{operates}
-use Rattle.jc_meaning.specs.Effects.{same_tagged, same_path, is_at_or_above, is_insert, is_delete, touches, clears, written_by, goes_through, target, value_in, primitive_in, list_at}
+use Rattle.jc_meaning.specs.Effects.{same_tagged, same_path, is_at_or_above, is_insert, is_delete, touches, written_by, target, value_in, primitive_in, list_at}
 use Rattle.jc_meaning.specs.Seen.{seen, ids_at, value_seen_at, has_tag}
 use Rattle.jc_meaning.specs.Meaning.{LinksOf, Means}
 use Rattle.jc_meaning.specs.ClearingEffects.{Tidy}
 use Rattle.jc_meaning.proofs.OrdersLemmas.{keys_back}
 use Rattle.jc_meaning.proofs.TagsLemmas.{tags_back}
-use Rattle.jc_meaning.proofs.NextOperationLemmas.{is_insert-is, NewFor}
-use Rattle.jc_meaning.proofs.OperationActsLemmas.{or_else, Changes, Fresh}
+use Rattle.jc_meaning.proofs.NextOperationLemmas.{is_insert-is}
+use Rattle.jc_meaning.proofs.OperationActsLemmas.{or_else, Changes}
 use Rattle.jc_meaning.proofs.InsertEffectsLemmas.{operation_changes}
 use Rattle.jc_meaning.proofs.MeaningStepLemmas.{reached, is_tidy, but_links}
 use Rattle.jc_meaning.proofs.RootedSetsLemmas.{next_new}

@@ -1,5 +1,5 @@
 -- About Laws: what is off the way of an operation, by its path.
-use Rattle.std.proofs.Common.{◌≡◌, List, [], ◌∷◌, ◌++◌, Bool, true, false, not, ◌||◌, ◌&&◌, cond, Option, Some, None, is_some, refl, sym, ◌∙◌, ap, subst}
+use Rattle.std.proofs.Common.{◌≡◌, List, [], ◌∷◌, ◌++◌, Bool, true, false, not, ◌&&◌, Option, Some, None, refl, sym, ◌∙◌, ap, subst}
 use Rattle.std.proofs.lemmas.List.{append-nil}
 use Rattle.jc_rules.specs.declared.id.Id.{Id}
 use Rattle.jc_rules.specs.declared.key.Key.{Key}
@@ -10,12 +10,9 @@ use Rattle.jc_rules.specs.declared.value.Value.{Value}
 use Rattle.jc_rules.specs.declared.value.Value.TheVariants as V
 use Rattle.jc_rules.specs.Order.{same_key}
 use Rattle.jc_rules.specs.Context.{Context, next, key_of_tagged}
-use Rattle.jc_rules.specs.ContextsAt.{first_key}
-use Rattle.jc_rules.proofs.BoolLemmas.{no_truth}
 use Rattle.jc_vectors.specs.OperationIds.{with_deps}
-use Rattle.jc_meaning.specs.Effects.{same_tagged, same_path, is_at_or_above, is_delete, is_insert, is_clearing, target, is_made_by, passed, value_in, primitive_in, written_by, clears}
+use Rattle.jc_meaning.specs.Effects.{same_tagged, same_path, is_at_or_above, is_delete, is_insert, is_clearing, target, is_made_by, passed, value_in}
 use Rattle.jc_meaning.specs.Seen.{seen}
-use Rattle.jc_meaning.specs.ClearingEffects.{in_key}
 use Rattle.jc_meaning.proofs.OrdersLemmas.{keys_eq, keys_back, keys_self}
 use Rattle.jc_meaning.proofs.TagsLemmas.{tags_back, tags_self}
 use Rattle.jc_effects.specs.Difference.{no_difference, below, IsSameAt, IsSameFrom, IsDifference}

@@ -1,18 +1,18 @@
 -- About Laws: what goes below a key goes from the key's presence set too.
-use Rattle.std.proofs.Common.{◌≡◌, List, [], ◌∷◌, ◌++◌, Bool, true, false, not, ◌||◌, ◌&&◌, refl, sym, ◌∙◌, ap, subst}
+use Rattle.std.proofs.Common.{◌≡◌, List, [], ◌∷◌, ◌++◌, Bool, true, false, not, ◌||◌, ◌&&◌, refl, sym, ◌∙◌, subst}
 use mathlib.Core.List.{append-nil, append_assoc}
 use Rattle.jc_rules.specs.declared.id.Id.{Id}
 use Rattle.jc_rules.specs.declared.key.Key.{Key}
 use Rattle.jc_rules.specs.declared.key.Tagged.{Tagged}
 use Rattle.jc_rules.specs.declared.operation.Op.{Op}
-use Rattle.jc_rules.specs.Order.{same_id, same_key}
+use Rattle.jc_rules.specs.Order.{same_id}
 use Rattle.jc_rules.specs.Ids.{has_id}
 use Rattle.jc_rules.specs.Context.{Context, content, key_of_tagged}
 use Rattle.jc_rules.specs.ContextsAt.{first_key}
 use Rattle.jc_rules.proofs.BoolLemmas.{first_true, second_true, both_true}
-use Rattle.jc_meaning.specs.Effects.{is_at_or_above, is_delete, is_clearing, touches, clears, target, list_at, same_tagged}
+use Rattle.jc_meaning.specs.Effects.{is_at_or_above, is_delete, is_clearing, touches, clears, target, same_tagged}
 use Rattle.jc_meaning.specs.Seen.{context_or_new, seen, ids_at}
-use Rattle.jc_meaning.specs.ClearingEffects.{Tidy, TidyAt, in_key}
+use Rattle.jc_meaning.specs.ClearingEffects.{Tidy, in_key}
 use Rattle.jc_meaning.proofs.OrdersLemmas.{keys_eq, keys_self}
 use Rattle.jc_meaning.proofs.ClearingEffectsLemmas.{seen_append}
 use Rattle.jc_meaning.proofs.OperationActsLemmas.{Changes}

@@ -1,5 +1,5 @@
 -- About Difference: two trees have one difference.
-use Rattle.std.proofs.Common.{◌≡◌, ◌⊎◌, inl, inr, List, [], ◌∷◌, ◌++◌, Bool, true, false, not, ◌||◌, ◌&&◌, cond, Option, Some, None, is_some, filter, refl, sym, ◌∙◌, ap, subst}
+use Rattle.std.proofs.Common.{◌≡◌, List, [], ◌∷◌, Bool, true, false, not, ◌&&◌, cond, Option, Some, None, is_some, refl, sym, ◌∙◌, ap, subst}
 use Rattle.std.specs.List.{AllByRecursion}
 use Rattle.std.specs.declared.cmp.Ordering.{Ordering}
 use Rattle.std.specs.declared.cmp.Ordering.TheVariants.{Less, Equal, Greater}
@@ -13,16 +13,15 @@ use Rattle.jc_rules.specs.declared.key.Tagged.{Tagged}
 use Rattle.jc_rules.specs.declared.key.Tagged.TheVariants.{MapT, ListT, RegT}
 use Rattle.jc_rules.specs.declared.value.Value.{Value}
 use Rattle.jc_rules.specs.Order.{key_cmp, id_cmp, same_id, same_key}
-use Rattle.jc_rules.specs.Entries.{IsRising, find, keys_of}
+use Rattle.jc_rules.specs.Entries.{IsRising, find}
 use Rattle.jc_rules.specs.Ids.{has_id, without}
 use Rattle.jc_rules.specs.Context.{Context, Register, next}
 use Rattle.jc_rules.proofs.BoolLemmas.{or_right, no_either}
 use Rattle.jc_rules.proofs.IdsLemmas.{same_id-self}
 use Rattle.jc_rules.proofs.OrderLemmas.{keys_total, exact_keys}
 use Rattle.jc_tree.specs.Tree.{or_no_entries, is_after}
-use Rattle.jc_meaning.specs.Seen.{seen, ids_at, reg_at, value_in_some, value_seen_at, has_tag}
-use Rattle.jc_meaning.specs.ClearingEffects.{in_key}
-use Rattle.jc_meaning.proofs.OrdersLemmas.{keys_eq, keys_self}
+use Rattle.jc_meaning.specs.Seen.{ids_at, reg_at, value_in_some, value_seen_at, has_tag}
+use Rattle.jc_meaning.proofs.OrdersLemmas.{keys_self}
 use Rattle.jc_effects.specs.Difference.{OwnDifference, same_link, values_without, tag_made, link_changed, own_difference, is_nothing, is_quiet, Differences, no_difference, difference, is_no_difference, differing_keys, is_listed, below, IsSameAt, IsSameFrom, AreComplete, AreExact, IsDifference}
 
 -- ---- where nothing differs, nothing differs of a key's own entries

@@ -1,8 +1,7 @@
 -- About Parts: the places that differ among some keys (`IsDifferenceAmong`), one key after another.
-use Rattle.std.proofs.Common.{◌≡◌, List, [], ◌∷◌, ◌++◌, Bool, true, false, not, ◌||◌, ◌&&◌, cond, Option, Some, None, is_some, filter, refl, sym, ◌∙◌, ap, subst}
+use Rattle.std.proofs.Common.{◌≡◌, List, [], ◌∷◌, ◌++◌, Bool, true, false, not, ◌&&◌, cond, Option, Some, None, is_some, refl, sym, ◌∙◌, ap, subst}
 use Rattle.std.specs.List.{AllByRecursion}
 use Rattle.std.specs.declared.cmp.Ordering.TheVariants.{Less}
-use Rattle.std.specs.Ordering.{eq_by_cmp}
 use Rattle.jc_rules.specs.declared.id.Id.{Id}
 use Rattle.jc_rules.specs.declared.key.Key.{Key}
 use Rattle.jc_rules.specs.declared.key.Next.{Next}
@@ -11,7 +10,7 @@ use Rattle.jc_rules.specs.declared.key.Tagged.{Tagged}
 use Rattle.jc_rules.specs.declared.key.Tagged.TheVariants.{MapT, ListT, RegT}
 use Rattle.jc_rules.specs.declared.value.Value.{Value}
 use Rattle.jc_rules.specs.Order.{key_cmp, id_cmp, same_id, same_key}
-use Rattle.jc_rules.specs.Entries.{IsRising, find}
+use Rattle.jc_rules.specs.Entries.{find}
 use Rattle.jc_rules.specs.Ids.{has_id, without}
 use Rattle.jc_rules.specs.Context.{Context, Register, next, empty}
 use Rattle.jc_rules.specs.ContextsAt.{first_key}
@@ -20,11 +19,10 @@ use Rattle.jc_rules.proofs.BoolLemmas.{first_true, second_true, neither, no_trut
 use Rattle.jc_rules.proofs.IdsLemmas.{same_id-true, has_id-without}
 use Rattle.jc_tree.specs.Tree.{or_no_entries}
 use Rattle.jc_meaning.specs.Seen.{seen, ids_at, reg_at, value_in_some, value_seen_at, has_tag}
-use Rattle.jc_meaning.specs.ClearingEffects.{in_key}
 use Rattle.jc_meaning.proofs.OrdersLemmas.{keys_eq, keys_back, keys_self}
 use Rattle.jc_meaning.proofs.ClearingEffectsLemmas.{below_reg}
 use Rattle.jc_meaning.proofs.ComparedContextsLemmas.{in_all}
-use Rattle.jc_effects.specs.Difference.{OwnDifference, same_link, values_without, tag_made, link_changed, own_difference, is_nothing, is_quiet, Differences, no_difference, difference, is_no_difference, differing_keys, is_listed, below, IsSameAt, IsSameFrom, AreExact, IsDifference}
+use Rattle.jc_effects.specs.Difference.{OwnDifference, same_link, values_without, tag_made, link_changed, own_difference, is_nothing, is_quiet, Differences, no_difference, difference, is_no_difference, differing_keys, is_listed, below, IsSameAt, IsSameFrom, IsDifference}
 use Rattle.jc_effects.specs.Parts.{AreLater, with_difference, IsDifferenceAmong}
 
 -- What no word tells: the tags stay, and so does a value under its identifier.

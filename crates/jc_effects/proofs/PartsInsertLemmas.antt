@@ -1,7 +1,6 @@
 -- About Parts: the key behind which an insert puts its element (`IsKeyBefore`), and the links that it changes.
-use Rattle.std.proofs.Common.{◌≡◌, ◌≢◌, ℕ, zero, suc, ◌<◌, List, [], ◌∷◌, ◌++◌, length, Bool, true, false, ◌||◌, ◌&&◌, cond, Option, Some, None, Contains, refl, sym, ◌∙◌, ap, subst, arith}
+use Rattle.std.proofs.Common.{◌≡◌, ◌≢◌, zero, suc, ◌<◌, List, [], ◌∷◌, length, Bool, true, false, ◌||◌, cond, Option, Some, None, Contains, refl, sym, ◌∙◌, ap, subst, arith}
 use Rattle.std.specs.List.{AllByRecursion}
-use Rattle.std.specs.Ordering.{eq_by_cmp}
 use Rattle.std.specs.declared.cmp.Ordering.{Ordering}
 use Rattle.std.specs.declared.cmp.Ordering.TheVariants.{Less, Equal, Greater}
 use Rattle.jc_rules.specs.declared.id.Id.{Id}
@@ -9,20 +8,19 @@ use Rattle.jc_rules.specs.declared.key.Key.{Key}
 use Rattle.jc_rules.specs.declared.key.Key.TheVariants as K
 use Rattle.jc_rules.specs.declared.key.Next.{Next}
 use Rattle.jc_rules.specs.declared.key.Next.TheVariants.{Tail, Elem as To}
-use Rattle.jc_rules.specs.declared.key.Tagged.{Tagged}
 use Rattle.jc_rules.specs.declared.operation.Mutation.{Mutation}
 use Rattle.jc_rules.specs.declared.operation.Mutation.TheVariants as M
 use Rattle.jc_rules.specs.declared.operation.Op.{Op}
-use Rattle.jc_rules.specs.Order.{id_cmp, key_cmp, same_id, same_key}
+use Rattle.jc_rules.specs.Order.{id_cmp, key_cmp, same_key}
 use Rattle.jc_rules.specs.Entries.{find, keys_of}
 use Rattle.jc_rules.specs.Context.{Context, context, no_child, links, next, key_of_tagged}
-use Rattle.jc_rules.specs.WellFormed.{elements, AreDistinct, chain_of, IsChain, IsChainedList}
+use Rattle.jc_rules.specs.WellFormed.{elements, AreDistinct, chain_of, IsChainedList}
 use Rattle.jc_rules.proofs.BoolLemmas.{no_truth, neither, or_right}
 use Rattle.jc_network.proofs.LinksKeptLemmas.{operates}
 use Rattle.jc_tree.proofs.ChainedLeadsLemmas.{leads_from, leads_on, steps}
 use Rattle.jc_vectors.specs.OperationIds.{with_deps}
 use Rattle.jc_meaning.specs.Effects.{list_at, is_insert, target_of, target}
-use Rattle.jc_meaning.specs.Forest.{Forest, preorder, follow, is_less}
+use Rattle.jc_meaning.specs.Forest.{preorder, follow, is_less}
 use Rattle.jc_meaning.specs.Meaning.{LinksOf}
 use Rattle.jc_meaning.specs.Seen.{seen}
 use Rattle.jc_meaning.proofs.ChainLemmas.{after, key_in}

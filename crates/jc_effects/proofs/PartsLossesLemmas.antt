@@ -1,8 +1,7 @@
 -- About Parts: the places that differ in a context in which nothing but losses can be (`OnlyLoses`).
-use Rattle.std.proofs.Common.{◌≡◌, option_to_list, ℕ, zero, suc, ◌<◌, List, [], ◌∷◌, ◌++◌, append_assoc, length, map, Bool, true, false, cond, Option, Some, None, is_some, Contains, refl, sym, ◌∙◌, ap, subst, arith}
+use Rattle.std.proofs.Common.{◌≡◌, option_to_list, zero, suc, ◌<◌, List, [], ◌∷◌, ◌++◌, append_assoc, length, Bool, true, false, cond, Option, Some, None, is_some, Contains, refl, sym, ◌∙◌, ap, subst, arith}
 use Rattle.std.specs.List.{AllByRecursion}
 use Rattle.std.specs.Borrow.{Bor}
-use Rattle.std.specs.declared.cmp.Ordering.TheVariants.{Less}
 use Rattle.std.proofs.lemmas.List.{append-nil}
 use Rattle.jc_rules.specs.declared.id.Id.{Id}
 use Rattle.jc_rules.specs.declared.key.Key.{Key}
@@ -12,13 +11,12 @@ use Rattle.jc_rules.specs.declared.value.Value.{Value}
 use Rattle.jc_rules.specs.Order.{key_cmp, same_key}
 use Rattle.jc_rules.specs.Entries.{IsRising, find, keys_of}
 use Rattle.jc_rules.specs.Ids.{has_id}
-use Rattle.jc_rules.specs.Context.{Context, content, node_of, values_of, presence, presences, maps, lists, registers, links, keys, key_of_tagged}
+use Rattle.jc_rules.specs.Context.{Context, node_of, values_of, presences, maps, lists, registers, links, keys, key_of_tagged}
 use Rattle.jc_rules.specs.Table.{is_done}
 use Rattle.jc_rules.proofs.BoolLemmas.{no_truth, same_tests}
 use Rattle.jc_tree.specs.Tree.{all_keys, keys_lent}
 use Rattle.jc_tree.proofs.WalksEntriesLemmas.{all-left, all-right}
 use Rattle.jc_meaning.specs.Seen.{seen, ids_of_some, ids_at, reg_at, value_in_some, value_seen_at, has_tag}
-use Rattle.jc_meaning.specs.ClearingEffects.{in_key}
 use Rattle.jc_meaning.proofs.OrdersLemmas.{keys_eq, keys_self}
 use Rattle.jc_meaning.proofs.ClearingEffectsLemmas.{ids_below_new, value_below_new}
 use Rattle.jc_effects.specs.Difference.{Differences, no_difference, below, IsSameAt, IsSameFrom, IsDifference}

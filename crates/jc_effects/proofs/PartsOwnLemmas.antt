@@ -6,30 +6,27 @@ use Rattle.jc_rules.specs.declared.key.Tagged.{Tagged}
 use Rattle.jc_rules.specs.declared.key.Tagged.TheVariants.{MapT, ListT, RegT}
 use Rattle.jc_rules.specs.declared.operation.Op.{Op}
 use Rattle.jc_rules.specs.declared.value.Value.{Value}
-use Rattle.jc_rules.specs.Order.{id_cmp, same_id}
-use Rattle.jc_rules.specs.Entries.{find}
+use Rattle.jc_rules.specs.Order.{same_id}
 use Rattle.jc_rules.specs.Ids.{AreRising, has_id, without}
 use Rattle.jc_rules.specs.Context.{Context, Register, next}
-use Rattle.jc_rules.proofs.BoolLemmas.{no_truth, or_false}
+use Rattle.jc_rules.proofs.BoolLemmas.{no_truth}
 use Rattle.jc_rules.proofs.IdsLemmas.{has_id-without, without-rises, same_members}
 use Rattle.jc_tree.specs.Tree.{or_no_entries, has_ids}
 use Rattle.jc_vectors.specs.OperationIds.{with_deps}
-use Rattle.jc_meaning.specs.Effects.{touches, clears, written_by, overwrites}
-use Rattle.jc_meaning.specs.Seen.{seen, ids_at, reg_at, value_in_some, value_seen_at, has_tag}
+use Rattle.jc_meaning.specs.Effects.{touches, clears, written_by}
+use Rattle.jc_meaning.specs.Seen.{seen, ids_at, reg_at, value_seen_at}
 use Rattle.jc_meaning.proofs.OperationActsLemmas.{or_else, Changes}
-use Rattle.jc_meaning.proofs.OrdersLemmas.{ids_back}
 use Rattle.jc_effects.specs.declared.along.May.{May}
 use Rattle.jc_effects.specs.declared.entries.Entries.{Entries}
 use Rattle.jc_effects.specs.declared.own.Candidates.{Candidates}
 use Rattle.jc_effects.specs.declared.own.OwnEffects.{OwnEffects}
-use Rattle.jc_effects.specs.declared.own.Tags.{Tags}
-use Rattle.jc_effects.specs.Difference.{values_without, tag_made, link_changed, shown_changed, own_difference, is_nothing}
+use Rattle.jc_effects.specs.Difference.{values_without, tag_made, link_changed, shown_changed, own_difference}
 use Rattle.jc_effects.specs.Laws.{IsChangedBy}
 use Rattle.jc_effects.specs.Parts.{own_seen, tags_made, new_tags, pairs_without, AreEntries, AreFound, MayDiffer, OnlyLosesAt}
 use Rattle.jc_effects.proofs.PartsAmongLemmas.{nothing_is, value_found, Keeps}
 use Rattle.jc_effects.proofs.OneLemmas.{without_none, values_none}
 use Rattle.jc_effects.proofs.ElsewhereLemmas.{changes_of}
-use Rattle.jc_effects.proofs.EffectsLemmas.{new_id, new_value}
+use Rattle.jc_effects.proofs.EffectsLemmas.{new_value}
 
 -- the pairs without a value are the same by the register and by what is seen
 pairs_seen : (r : Register) (k : Key) (c : Context) → pairs_without r (or_no_entries (reg_at k c)) ≡ values_without r k c

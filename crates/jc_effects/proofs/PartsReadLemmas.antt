@@ -1,5 +1,5 @@
 -- About Parts: what is seen at a path that a store names, and at one that leads to no context.
-use Rattle.std.proofs.Common.{◌≡◌, ◌≢◌, ℕ, zero, suc, option_copied, IfSome, Result, Ok, Err, is_ok, ◌-◌, ◌<◌, List, [], ◌∷◌, ◌++◌, length, slice_get, Bool, true, false, cond, Option, Some, None, is_some, refl, sym, ◌∙◌, ap, subst, arith}
+use Rattle.std.proofs.Common.{◌≡◌, ℕ, zero, suc, option_copied, IfSome, Result, Ok, Err, is_ok, ◌-◌, ◌<◌, List, [], ◌∷◌, ◌++◌, length, slice_get, Bool, true, false, cond, Option, Some, None, is_some, refl, sym, ◌∙◌, ap, subst, arith}
 use Rattle.std.specs.Borrow.{Bor}
 use Rattle.jc_rules.specs.declared.id.Id.{Id}
 use Rattle.jc_rules.specs.declared.key.Key.{Key}
@@ -9,11 +9,11 @@ use Rattle.jc_rules.specs.declared.value.Value.{Value}
 use Rattle.jc_rules.specs.Order.{id_cmp, key_cmp, same_id}
 use Rattle.jc_rules.specs.Entries.{find}
 use Rattle.jc_rules.specs.Ids.{AreRising}
-use Rattle.jc_rules.specs.Context.{Context, Register, Content, Node, Values, content, presence, registers, next}
-use Rattle.jc_rules.specs.ContextsAt.{node_at, node_in, context_at}
+use Rattle.jc_rules.specs.Context.{Context, Register, Content, Node, Values, content, presence, registers}
+use Rattle.jc_rules.specs.ContextsAt.{node_at, node_in}
 use Rattle.jc_rules.specs.Paths.{HasContext}
 use Rattle.jc_rules.specs.WellFormed.{IsWellFormedContext, IsWellFormedRegister}
-use Rattle.jc_rules.proofs.ContextsAtLemmas.{there, node-below}
+use Rattle.jc_rules.proofs.ContextsAtLemmas.{there}
 use Rattle.jc_rules.proofs.BoolLemmas.{no_truth}
 use Rattle.jc_rules.proofs.IdsLemmas.{same_id-self}
 use Rattle.jc_rules.proofs.OrderLemmas.{ids_total, exact_ids}

@@ -1,6 +1,5 @@
 -- About Parts: what an operation may change of a key's own entries (`MayDiffer`), and what it takes below its target.
 use Rattle.std.proofs.Common.{◌≡◌, List, [], ◌∷◌, ◌++◌, Bool, true, false, not, ◌||◌, ◌&&◌, cond, Option, Some, None, is_some, refl, sym, ◌∙◌, ap, subst}
-use Rattle.jc_rules.specs.declared.id.Id.{Id}
 use Rattle.jc_rules.specs.declared.key.Key.{Key}
 use Rattle.jc_rules.specs.declared.key.Tagged.{Tagged}
 use Rattle.jc_rules.specs.declared.key.Tagged.TheVariants.{MapT, ListT, RegT}
@@ -8,14 +7,13 @@ use Rattle.jc_rules.specs.declared.operation.Mutation.{Mutation}
 use Rattle.jc_rules.specs.declared.operation.Mutation.TheVariants as M
 use Rattle.jc_rules.specs.declared.operation.Op.{Op}
 use Rattle.jc_rules.specs.declared.value.Value.{Value}
-use Rattle.jc_rules.specs.declared.value.Value.TheVariants as V
 use Rattle.jc_rules.specs.Order.{same_id, same_key}
 use Rattle.jc_rules.specs.Ids.{has_id}
-use Rattle.jc_rules.specs.Context.{Context, next, key_of_tagged}
+use Rattle.jc_rules.specs.Context.{Context, key_of_tagged}
 use Rattle.jc_rules.proofs.BoolLemmas.{no_truth}
 use Rattle.jc_vectors.specs.OperationIds.{with_deps}
-use Rattle.jc_meaning.specs.Effects.{same_path, is_at_or_above, is_delete, is_insert, is_clearing, target_of, target, touches, clears, written_by, passed, value_in, primitive_in}
-use Rattle.jc_meaning.specs.Seen.{seen, ids_at, value_seen_at, has_tag}
+use Rattle.jc_meaning.specs.Effects.{same_path, is_at_or_above, is_delete, is_insert, is_clearing, target_of, target, touches, written_by, passed, value_in, primitive_in}
+use Rattle.jc_meaning.specs.Seen.{seen, ids_at, value_seen_at}
 use Rattle.jc_meaning.proofs.OperationActsLemmas.{or_else, Changes}
 use Rattle.jc_meaning.proofs.OrdersLemmas.{keys_back, keys_self}
 use Rattle.jc_meaning.proofs.TagsLemmas.{tags_self}

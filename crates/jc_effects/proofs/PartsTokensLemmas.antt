@@ -1,7 +1,7 @@
 -- About Parts: the tokens of members and of items, one after another.
-use Rattle.std.proofs.Common.{◌≡◌, ◌==◌, ℕ, length, List, [], ◌∷◌, ◌++◌, append_assoc, Bool, true, false, not, ◌||◌, ◌&&◌, cond, codes, map, refl, sym, ◌∙◌, ap, subst}
+use Rattle.std.proofs.Common.{◌≡◌, ◌==◌, ℕ, length, List, [], ◌∷◌, ◌++◌, append_assoc, Bool, true, false, not, ◌&&◌, cond, codes, map, refl, sym, ◌∙◌, ap, subst}
 use Rattle.std.proofs.lemmas.List.{append-nil}
-use Rattle.json.specs.Json.{Json, array, object, Items, no_items, item, string}
+use Rattle.json.specs.Json.{Json, array, object, Items, no_items, item}
 use Rattle.json.specs.Token.{Token}
 use Rattle.json.specs.Token as T
 use Rattle.json.specs.Tree.{json_tokens, items_tokens, members_tokens}
@@ -13,7 +13,7 @@ use Rattle.jc_view.specs.Parts.{Gains}
 use Rattle.jc_view.proofs.TokensLemmas.{gains_nothing, gains_then, gains_between}
 use Rattle.jc_effects.specs.declared.own.Tags.{Tags}
 use Rattle.jc_effects.specs.Difference.{OwnDifference, Differences, no_difference, difference, is_no_difference}
-use Rattle.jc_effects.specs.EffectsJson.{Labelled, as_members, as_items, some_items, some_tags, tag_word, place_members, place_items, effects_json}
+use Rattle.jc_effects.specs.EffectsJson.{Labelled, as_members, as_items, some_items, some_tags, tag_word, place_members, place_items}
 use Rattle.jc_effects.specs.Parts.{labelled_tokens, items_front, first_tokens, tags_made, front_members, middle_members, back_members}
 
 -- ---- members

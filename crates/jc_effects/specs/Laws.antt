@@ -1,5 +1,5 @@
 -- That a tree is the next one after another by an operation, and the statements of the crate's laws (`laws`).
-use Rattle.std.specs.Prelude.{◌≡◌, List, [], ◌∷◌, ◌++◌, Bool, true, false, not, ◌&&◌, ◌||◌, is_some}
+use Rattle.std.specs.Prelude.{◌≡◌, List, ◌++◌, true, false, not, ◌&&◌, ◌||◌, is_some}
 use Rattle.jc_rules.specs.declared.id.Id.{Id}
 use Rattle.jc_rules.specs.declared.key.Key.{Key}
 use Rattle.jc_rules.specs.declared.key.Tagged.{Tagged}
@@ -16,7 +16,7 @@ use Rattle.jc_meaning.specs.Seen.{seen, ids_at, value_seen_at}
 use Rattle.jc_meaning.specs.Meaning.{Means}
 use Rattle.jc_meaning.specs.ClearingEffects.{in_key}
 use Rattle.jc_meaning.specs.Laws.{ComesNext}
-use Rattle.jc_effects.specs.Difference.{Differences, IsDifference, IsSameAt, IsSameFrom}
+use Rattle.jc_effects.specs.Difference.{Differences, IsDifference, IsSameAt}
 
 -- The operation leads from the one tree to the other, and the first one is what the operations mean that were applied
 -- before it.

@@ -1,5 +1,5 @@
 -- What the private functions read, keep and return, on the way to a difference.
-use Rattle.std.specs.Prelude.{◌≡◌, ℕ, codes, List, [], ◌∷◌, ◌++◌, Bool, true, false, not, ◌&&◌, cond, filter, Option, Some, None, is_some}
+use Rattle.std.specs.Prelude.{◌≡◌, ℕ, codes, List, [], ◌∷◌, ◌++◌, true, false, not, ◌&&◌, cond, filter, Option, Some, None, is_some}
 use Rattle.std.specs.List.{AllByRecursion}
 use Rattle.std.specs.declared.cmp.Ordering.TheVariants.{Less}
 use Rattle.json.specs.Json.{Items, no_items, item, object, string}
@@ -13,7 +13,7 @@ use Rattle.jc_rules.specs.declared.key.Next.{Next}
 use Rattle.jc_rules.specs.declared.key.Tagged.{Tagged}
 use Rattle.jc_rules.specs.declared.key.Tagged.TheVariants.{MapT, ListT, RegT}
 use Rattle.jc_rules.specs.declared.operation.Op.{Op}
-use Rattle.jc_rules.specs.Order.{id_cmp, key_cmp, same_key}
+use Rattle.jc_rules.specs.Order.{id_cmp, key_cmp}
 use Rattle.jc_rules.specs.Entries.{IsRising, find}
 use Rattle.jc_rules.specs.Ids.{AreRising, has_id, without}
 use Rattle.jc_rules.specs.Context.{Context, Register, next}
@@ -36,7 +36,7 @@ use Rattle.jc_effects.specs.declared.effects.Effects.{Effects, Nothing, Place'}
 use Rattle.jc_effects.specs.declared.below.Contexts.{Contexts}
 use Rattle.jc_effects.specs.declared.along.May.{May}
 use Rattle.jc_effects.specs.EffectsJson.{Labelled, as_members, some_ids, some_pairs, some_tags, some_links, if_shown, place_members, place_items}
-use Rattle.jc_effects.specs.Difference.{OwnDifference, own_difference, link_changed, shown_changed, is_quiet, Differences, no_difference, difference, is_no_difference, differing_keys, is_listed, below, IsSameFrom, AreExact, IsDifference}
+use Rattle.jc_effects.specs.Difference.{OwnDifference, link_changed, shown_changed, is_quiet, Differences, no_difference, difference, is_no_difference, differing_keys, is_listed, IsSameFrom, AreExact}
 
 -- ---- what the values in memory represent
 

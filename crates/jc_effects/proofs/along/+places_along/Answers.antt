@@ -1,7 +1,7 @@
 use Rattle.std.proofs.Common.{◌≡◌, ◌+◌, ◌<◌, List, [], ◌∷◌, ◌++◌, length, take, drop, sym, ◌∙◌, ap, subst, arith}
 use Rattle.jc_rules.specs.declared.key.Tagged.{Tagged}
 use Rattle.jc_meaning.specs.Seen.{seen}
-use Rattle.jc_effects.specs.Difference.{below, IsDifference}
+use Rattle.jc_effects.specs.Difference.{IsDifference}
 use Rattle.jc_effects.specs.Parts.{differences_of}
 use Rattle.jc_effects.proofs.PartsAlongLemmas.{below_longer, split_at, longer_at}
 use Rattle.jc_effects.proofs.along.+places_along.Goals as goal

@@ -1,5 +1,4 @@
-use Rattle.std.proofs.Common.{◌≡◌, Some, sym, ◌∙◌, ap, subst}
-use Rattle.jc_rules.specs.declared.key.Next.TheVariants.{Elem as To}
+use Rattle.std.proofs.Common.{sym, ◌∙◌, ap, subst}
 use Rattle.jc_rules.specs.Context.{next}
 use Rattle.jc_meaning.specs.Seen.{seen}
 use Rattle.jc_effects.specs.Parts.{IsNamed}

@@ -1,4 +1,3 @@
-use Rattle.std.proofs.Common.{refl}
 use Rattle.std.proofs.lemmas.Result.{IfOk-weaker}
 use Rattle.jc_effects.proofs.PartsOwnLemmas.{changed_own}
 use Rattle.jc_effects.proofs.along.own_at.Goals as goal

@@ -8,7 +8,7 @@ use Rattle.jc_tree.specs.Tree.{here, all_keys, keys_lent}
 use Rattle.jc_tree.specs.Nested.{nested}
 use Rattle.jc_meaning.specs.Seen.{seen}
 use Rattle.jc_meaning.proofs.ClearingEffectsLemmas.{seen_append}
-use Rattle.jc_effects.specs.Difference.{Differences, own_difference, below, IsDifference}
+use Rattle.jc_effects.specs.Difference.{own_difference, below, IsDifference}
 use Rattle.jc_effects.specs.Parts.{IsNamed, AreContexts, AreLater, IsDifferenceAmong, OnlyLosesAt, OnlyLoses, own_seen, differences_of}
 use Rattle.jc_effects.proofs.PartsAlongLemmas.{lost_place, below_longer, longer_below}
 use Rattle.jc_effects.proofs.PartsLossesLemmas.{PassedBack, none_new, loses_below, passed_none, passed_one, passed_all, lent_last, emptied}

@@ -1,9 +1,5 @@
 use Rattle.std.proofs.Common.{◌≡◌, ◌+◌, ◌*◌, vec_len}
-use Rattle.jc_rules.specs.Order.{key_cmp}
-use Rattle.jc_rules.specs.Entries.{IsRising}
-use Rattle.std.proofs.Common.{Contains}
-use Rattle.std.specs.List.{AllByRecursion}
-use Rattle.jc_tree.specs.Tree.{here, all_keys, keys_lent}
+use Rattle.jc_tree.specs.Tree.{here, keys_lent}
 use Rattle.jc_tree.specs.Nested.{nested}
 use Rattle.jc_meaning.specs.Seen.{seen}
 use Rattle.jc_effects.specs.Parts.{differences_of}

@@ -1,7 +1,6 @@
 use Rattle.std.proofs.Common.{refl}
 use Rattle.std.proofs.lemmas.Result.{IfOk-weaker}
 use Rattle.jc_meaning.specs.Seen.{seen}
-use Rattle.jc_effects.specs.Parts.{AreFound}
 use Rattle.jc_effects.proofs.PartsOwnLemmas.{lost_own}
 use Rattle.jc_effects.proofs.below.own_lost.Goals as goal
 

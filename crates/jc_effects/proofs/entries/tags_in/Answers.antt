@@ -1,4 +1,4 @@
-use Rattle.std.proofs.Common.{is_some, option_copied, refl, sym, ◌∙◌, ap, subst}
+use Rattle.std.proofs.Common.{sym, ◌∙◌, subst}
 use Rattle.jc_rules.specs.declared.key.Tagged.TheVariants.{MapT, ListT, RegT}
 use Rattle.jc_effects.specs.Parts.{IsNamed}
 use Rattle.jc_effects.proofs.PartsReadLemmas.{is_new, tag_read, register_read, copied_some}

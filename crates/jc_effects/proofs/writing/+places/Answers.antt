@@ -1,10 +1,9 @@
-use Rattle.std.proofs.Common.{◌≡◌, ◌∷◌, [], false, codes, sym, ◌∙◌, ap, subst}
+use Rattle.std.proofs.Common.{codes, sym, ◌∙◌, ap, subst}
 use Rattle.std.proofs.lemmas.Result.{on_ok_weaker}
-use Rattle.json.specs.Token as T
 use Rattle.jc_view.specs.Parts.{Gains}
 use Rattle.jc_view.proofs.TokensLemmas.{gains_one}
 use Rattle.jc_effects.specs.declared.effects.Effects.{Effects}
-use Rattle.jc_effects.specs.Difference.{Differences, is_no_difference}
+use Rattle.jc_effects.specs.Difference.{Differences}
 use Rattle.jc_effects.specs.EffectsJson.{some_items, place_items}
 use Rattle.jc_effects.specs.Parts.{own_seen, differences_of, labelled_tokens, first_tokens}
 use Rattle.jc_effects.proofs.PartsTokensLemmas.{some_written, array_written, places_none, place_written}

@@ -1,4 +1,4 @@
-use Rattle.std.proofs.Common.{map, sym, ◌∙◌}
+use Rattle.std.proofs.Common.{map}
 use Rattle.std.proofs.lemmas.Result.{on_ok_weaker}
 use Rattle.jc_effects.specs.EffectsJson.{as_items, id_and_value}
 use Rattle.jc_view.proofs.TokensLemmas.{gains_one}
