@@ -1,0 +1,16 @@
+use Rattle.std.proofs.Common.{sym, ◌∙◌}
+use Rattle.std.proofs.lemmas.Result.{IfOk-weaker}
+use Rattle.jc_effects.specs.Parts.{differences_of}
+use Rattle.jc_effects.proofs.PartsAlongLemmas.{target_all}
+use Rattle.jc_effects.proofs.PartsTargetLemmas.{other_target}
+use Rattle.jc_effects.proofs.along.places_at_target.Goals as goal
+
+pub returns : goal.returns
+returns g c =
+    let o = c.args.change.now.op.now in
+    let old = (g.S.TreeStore.tree c.args.change.now.old.now).now in
+    let new = (g.S.TreeStore.tree c.args.change.now.new.now).now in
+    let no_insert = sym c.is_insert.ensures ∙ c.if-is_insert.false in
+    IfOk-weaker c.place_at_target.result _ _
+    (λ e f. target_all o old new c.requires.changed c.in_ok-at.at.items o.cursor.last (differences_of e) (c.in_ok-at.ensures ∙ c.as_slice.ensures.keys) (other_target o no_insert) no_insert f)
+    c.place_at_target.ensures

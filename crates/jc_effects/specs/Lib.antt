@@ -1,0 +1,4 @@
+pub mod Difference
+pub mod EffectsJson
+pub mod Laws
+pub mod Parts

@@ -1,0 +1,360 @@
+//! The places that differ by an operation: along its path, at its target and below it.
+
+ghost use Rattle.std.specs.Prelude.{◌≡◌, ◌≢◌, ◌≤◌, ◌++◌, ◌∷◌, [], List, cond, length, take, true, false, Some, None, IfOk, OnOk};
+ghost use Rattle.std.specs.declared.cmp.Ordering.TheVariants.{Less};
+ghost use Rattle.jc_rules.specs.declared.id.Id.{Id as AnyId};
+ghost use Rattle.jc_rules.specs.declared.key.Key.{Key as AnyKey};
+ghost use Rattle.jc_rules.specs.declared.key.Next.TheVariants.{Elem as To};
+ghost use Rattle.jc_rules.specs.declared.key.Tagged.{Tagged as AnyTagged};
+ghost use Rattle.jc_rules.specs.Order.{id_cmp, same_key};
+ghost use Rattle.jc_meaning.specs.Effects.{is_delete as deletes, is_insert as is_insertion, is_clearing as clears_there, target};
+ghost use Rattle.jc_meaning.specs.Seen.{seen};
+ghost use Rattle.jc_effects.specs.Difference.{below, own_difference, IsDifference};
+ghost use Rattle.jc_effects.specs.Laws.{IsChangedBy};
+ghost use Rattle.jc_effects.specs.Parts.{AreContexts, AreLater, IsDifferenceAmong, IsKeyBefore, MayDiffer, own_seen, differences_of};
+
+use crate::below::{Change, Contexts, child_below, contexts_below};
+use crate::effects::{Effects, with_place};
+use crate::entries::{entries_at, link_in};
+use crate::own::{Candidates, OwnEffects, own_between};
+use jc_rules::{Id, Key, Mutation, Next, Op, Tagged, Value, compare_ids, compare_keys};
+use jc_tree::{Place, TreeStore};
+use std::alloc::{AllocError, Global};
+
+/// What of a key's own entries an operation may have changed; nothing else is looked at.
+#[derive(Clone, Copy)]
+struct May {
+    /// Whether the operation's identifier is in the presence set now.
+    gain: bool,
+    /// Whether identifiers may have gone.
+    clear: bool,
+    /// Whether values may have come or gone.
+    values: bool,
+}
+
+const NOT_AT_ALL: May = May {
+    gain: false,
+    clear: false,
+    values: false,
+};
+
+fn is_delete(mutation: &Mutation) -> bool
+    ensures { result ≡ deletes mutation.now }
+{
+    matches!(mutation, Mutation::Delete)
+}
+
+fn is_insert(mutation: &Mutation) -> bool
+    ensures { result ≡ is_insertion mutation.now }
+{
+    matches!(mutation, Mutation::Insert(_))
+}
+
+/// Whether the mutation clears its target: it deletes, or assigns a new map or list.
+fn is_clearing(mutation: &Mutation) -> bool
+    ensures { result ≡ clears_there mutation.now }
+{
+    match mutation {
+        Mutation::Assign(Value::EmptyMap) | Mutation::Assign(Value::EmptyList) => true,
+        Mutation::Assign(_) | Mutation::Insert(_) => false,
+        Mutation::Delete => true,
+    }
+}
+
+/// The identifiers, or none.
+fn ids_if(wanted: bool, ids: &[Id]) -> &[Id]
+    ensures { result.now ≡ cond wanted ids.now [] }
+{
+    if wanted { ids } else { &[] }
+}
+
+/// The pairs, or none.
+fn pairs_if(wanted: bool, pairs: &[(Id, Value)]) -> &[(Id, Value)]
+    ensures { result.now ≡ cond wanted pairs.now [] }
+{
+    if wanted { pairs } else { &[] }
+}
+
+/// What differs of the entries at a key, where the operation may have changed no more than is said.
+fn own_at<S: TreeStore>(
+    change: &Change<'_, S>,
+    contexts: Contexts,
+    at: &[Tagged],
+    key: &Key,
+    may: May,
+) -> Result<OwnEffects, AllocError>
+    requires changed { IsChangedBy change.now.op.now (S.tree change.now.old.now).now (S.tree change.now.new.now).now }
+    requires contexts { AreContexts (S.names change.now.old.now) (S.names change.now.new.now)
+        (S.tree change.now.old.now) (S.tree change.now.new.now) at.now contexts }
+    requires may { MayDiffer change.now.op.now at.now key.now may }
+    ensures { IfOk result (λ own. own_seen key.now own ≡ own_difference key.now
+        (seen at.now (S.tree change.now.old.now).now) (seen at.now (S.tree change.now.new.now).now)) }
+{
+    let was = entries_at(change.old, contexts.old, at, key);
+    let now = entries_at(change.new, contexts.new, at, key);
+    let id = [change.op.id];
+    let candidates = Candidates {
+        gained: ids_if(may.gain, &id),
+        lost: ids_if(may.clear, was.ids),
+        taken: pairs_if(may.values, was.pairs),
+        written: pairs_if(may.values, now.pairs),
+    };
+    own_between(change.alloc, &was, &now, candidates)
+}
+
+/// A copy of the path.
+fn copy_path(alloc: Global, path: &[Tagged]) -> Result<Vec<Tagged>, AllocError>
+    ensures { IfOk result (λ copy. copy.items ≡ path.now) }
+{
+    let mut copy = Vec::new(alloc);
+    for tagged in path {
+        copy.push(tagged.copy()?)?;
+    }
+    Ok(copy)
+}
+
+/// The places that differ in the target's map or list, which are those that were cleared.
+fn child_cleared<S: TreeStore>(
+    change: &Change<'_, S>,
+    contexts: Contexts,
+    at: &mut Vec<Tagged>,
+    tagged: Tagged,
+) -> Result<Effects, AllocError>
+    requires changed { IsChangedBy change.now.op.now (S.tree change.now.old.now).now (S.tree change.now.new.now).now }
+    requires contexts { AreContexts (S.names change.now.old.now) (S.names change.now.new.now)
+        (S.tree change.now.old.now) (S.tree change.now.new.now) at.old.items contexts }
+    requires path { at.old.items ≡ change.now.op.now.cursor.path }
+    ensures difference { IfOk result (λ effects. IsDifference
+        (below tagged (seen at.old.items (S.tree change.now.old.now).now))
+        (below tagged (seen at.old.items (S.tree change.now.new.now).now)) (differences_of effects)) }
+    ensures path { OnOk result (at.new.items ≡ at.old.items) }
+{
+    if is_clearing(&change.op.mutation) {
+        child_below(change, contexts, at, tagged)
+    } else {
+        Ok(Effects::Nothing)
+    }
+}
+
+/// With the target's place in front of the others, if something differs there. All other keys that differ are greater.
+fn place_at_target<S: TreeStore>(
+    change: &Change<'_, S>,
+    contexts: Contexts,
+    at: &mut Vec<Tagged>,
+    key: &Key,
+    rest: Effects,
+) -> Result<Effects, AllocError>
+    requires changed { IsChangedBy change.now.op.now (S.tree change.now.old.now).now (S.tree change.now.new.now).now }
+    requires contexts { AreContexts (S.names change.now.old.now) (S.names change.now.new.now)
+        (S.tree change.now.old.now) (S.tree change.now.new.now) at.old.items contexts }
+    requires path { at.old.items ≡ change.now.op.now.cursor.path }
+    requires target { key.now ≡ target change.now.op.now }
+    ensures { IfOk result (λ effects. (ks : List AnyKey) → AreLater key.now ks
+        → IsDifferenceAmong ks (seen at.old.items (S.tree change.now.old.now).now)
+        (seen at.old.items (S.tree change.now.new.now).now) (differences_of rest)
+        → IsDifferenceAmong (key.now ∷ ks) (seen at.old.items (S.tree change.now.old.now).now)
+        (seen at.old.items (S.tree change.now.new.now).now) (differences_of effects)) }
+{
+    let list = child_cleared(change, contexts, at, Tagged::ListT(key.copy()?))?;
+    let map = child_cleared(change, contexts, at, Tagged::MapT(key.copy()?))?;
+    let may = May {
+        gain: !is_delete(&change.op.mutation),
+        clear: is_clearing(&change.op.mutation),
+        values: true,
+    };
+    let own = own_at(change, contexts, at.as_slice(), key, may)?;
+    with_place(change.alloc, key, own, map, list, rest)
+}
+
+/// The element that `next` leads to, if its identifier is greater than the given one.
+fn greater_element(next: Option<Next>, id: Id) -> Option<Id>
+    ensures some { (n : AnyId) → result ≡ Some n → (next ≡ Some (To n)) × (id_cmp id n ≡ Less) }
+    ensures none { result ≡ None → (n : AnyId) → next ≡ Some (To n) → id_cmp id n ≢ Less }
+{
+    match next {
+        Some(Next::Elem(element)) if compare_ids(id, element).is_lt() => Some(element),
+        _ => None,
+    }
+}
+
+/// The key behind which the operation put its element, by the list as it was.
+fn key_before<S: TreeStore>(change: &Change<'_, S>, contexts: Contexts) -> Result<Key, AllocError>
+    requires changed { IsChangedBy change.now.op.now (S.tree change.now.old.now).now (S.tree change.now.new.now).now }
+    requires contexts { AreContexts (S.names change.now.old.now) (S.names change.now.new.now)
+        (S.tree change.now.old.now) (S.tree change.now.new.now) change.now.op.now.cursor.path contexts }
+    requires inserts { is_insertion change.now.op.now.mutation ≡ true }
+    ensures { IfOk result (λ key. IsKeyBefore change.now.op.now
+        (seen change.now.op.now.cursor.path (S.tree change.now.old.now).now) key) }
+{
+    let op = change.op;
+    let path = op.cursor.path.as_slice();
+    let mut key = op.cursor.last.copy()?;
+    while let Some(id) = greater_element(link_in(change.old, contexts.old, path, &key), op.id) {
+        key = Key::Elem(id);
+    }
+    Ok(key)
+}
+
+/// With the place of the key before the new element in front of the others. All other keys that differ are greater.
+fn place_of_link<S: TreeStore>(
+    change: &Change<'_, S>,
+    contexts: Contexts,
+    key: &Key,
+    rest: Effects,
+) -> Result<Effects, AllocError>
+    requires changed { IsChangedBy change.now.op.now (S.tree change.now.old.now).now (S.tree change.now.new.now).now }
+    requires contexts { AreContexts (S.names change.now.old.now) (S.names change.now.new.now)
+        (S.tree change.now.old.now) (S.tree change.now.new.now) change.now.op.now.cursor.path contexts }
+    requires inserts { is_insertion change.now.op.now.mutation ≡ true }
+    requires other { same_key (target change.now.op.now) key.now ≡ false }
+    ensures { IfOk result (λ effects. (ks : List AnyKey) → AreLater key.now ks
+        → IsDifferenceAmong ks (seen change.now.op.now.cursor.path (S.tree change.now.old.now).now)
+        (seen change.now.op.now.cursor.path (S.tree change.now.new.now).now) (differences_of rest)
+        → IsDifferenceAmong (key.now ∷ ks) (seen change.now.op.now.cursor.path (S.tree change.now.old.now).now)
+        (seen change.now.op.now.cursor.path (S.tree change.now.new.now).now) (differences_of effects)) }
+{
+    let path = change.op.cursor.path.as_slice();
+    let own = own_at(change, contexts, path, key, NOT_AT_ALL)?;
+    with_place(
+        change.alloc,
+        key,
+        own,
+        Effects::Nothing,
+        Effects::Nothing,
+        rest,
+    )
+}
+
+/// The places of the new element and of the key before it, which an insert links otherwise.
+fn places_of_insert<S: TreeStore>(
+    change: &Change<'_, S>,
+    contexts: Contexts,
+    at: &mut Vec<Tagged>,
+) -> Result<Effects, AllocError>
+    requires changed { IsChangedBy change.now.op.now (S.tree change.now.old.now).now (S.tree change.now.new.now).now }
+    requires contexts { AreContexts (S.names change.now.old.now) (S.names change.now.new.now)
+        (S.tree change.now.old.now) (S.tree change.now.new.now) at.old.items contexts }
+    requires path { at.old.items ≡ change.now.op.now.cursor.path }
+    requires inserts { is_insertion change.now.op.now.mutation ≡ true }
+    ensures { IfOk result (λ effects. IsDifference (seen at.old.items (S.tree change.now.old.now).now)
+        (seen at.old.items (S.tree change.now.new.now).now) (differences_of effects)) }
+{
+    let element = Key::Elem(change.op.id);
+    let before = key_before(change, contexts)?;
+    if compare_keys(&before, &element).is_lt() {
+        let rest = place_at_target(change, contexts, at, &element, Effects::Nothing)?;
+        place_of_link(change, contexts, &before, rest)
+    } else {
+        let rest = place_of_link(change, contexts, &before, Effects::Nothing)?;
+        place_at_target(change, contexts, at, &element, rest)
+    }
+}
+
+/// The places that differ in the context of the target.
+fn places_at_target<S: TreeStore>(
+    change: &Change<'_, S>,
+    contexts: Contexts,
+) -> Result<Effects, AllocError>
+    requires changed { IsChangedBy change.now.op.now (S.tree change.now.old.now).now (S.tree change.now.new.now).now }
+    requires contexts { AreContexts (S.names change.now.old.now) (S.names change.now.new.now)
+        (S.tree change.now.old.now) (S.tree change.now.new.now) change.now.op.now.cursor.path contexts }
+    ensures { IfOk result (λ effects. IsDifference
+        (seen change.now.op.now.cursor.path (S.tree change.now.old.now).now)
+        (seen change.now.op.now.cursor.path (S.tree change.now.new.now).now) (differences_of effects)) }
+{
+    let op = change.op;
+    let mut at = copy_path(change.alloc, op.cursor.path.as_slice())?;
+    if is_insert(&op.mutation) {
+        places_of_insert(change, contexts, &mut at)
+    } else {
+        let rest = Effects::Nothing;
+        place_at_target(change, contexts, &mut at, &op.cursor.last, rest)
+    }
+}
+
+/// The place of a key on the path, from the places that differ in the context below it.
+fn place_on_path<S: TreeStore>(
+    change: &Change<'_, S>,
+    contexts: Contexts,
+    at: &[Tagged],
+    tagged: &Tagged,
+    inside: Effects,
+) -> Result<Effects, AllocError>
+    requires changed { IsChangedBy change.now.op.now (S.tree change.now.old.now).now (S.tree change.now.new.now).now }
+    requires contexts { AreContexts (S.names change.now.old.now) (S.names change.now.new.now)
+        (S.tree change.now.old.now) (S.tree change.now.new.now) at.now contexts }
+    requires path { (rest : List AnyTagged) × (change.now.op.now.cursor.path ≡ at.now ++ tagged.now ∷ rest) }
+    requires inside { IsDifference (below tagged.now (seen at.now (S.tree change.now.old.now).now))
+        (below tagged.now (seen at.now (S.tree change.now.new.now).now)) (differences_of inside) }
+    ensures { IfOk result (λ effects. IsDifference (seen at.now (S.tree change.now.old.now).now)
+        (seen at.now (S.tree change.now.new.now).now) (differences_of effects)) }
+{
+    let may = May {
+        gain: !is_delete(&change.op.mutation),
+        clear: false,
+        values: false,
+    };
+    let own = own_at(change, contexts, at, tagged.key(), may)?;
+    let none = Effects::Nothing;
+    match tagged {
+        Tagged::MapT(key) => with_place(change.alloc, key, own, inside, none, Effects::Nothing),
+        Tagged::ListT(key) => with_place(change.alloc, key, own, none, inside, Effects::Nothing),
+        Tagged::RegT(key) => with_place(
+            change.alloc,
+            key,
+            own,
+            none,
+            Effects::Nothing,
+            Effects::Nothing,
+        ),
+    }
+}
+
+/// The places that differ in the context so deep on the operation's path.
+fn places_along<S: TreeStore>(
+    change: &Change<'_, S>,
+    contexts: Contexts,
+    depth: usize,
+) -> Result<Effects, AllocError>
+    requires changed { IsChangedBy change.now.op.now (S.tree change.now.old.now).now (S.tree change.now.new.now).now }
+    requires contexts { AreContexts (S.names change.now.old.now) (S.names change.now.new.now)
+        (S.tree change.now.old.now) (S.tree change.now.new.now) (take depth change.now.op.now.cursor.path) contexts }
+    requires depth { depth ≤ length change.now.op.now.cursor.path }
+    ensures { IfOk result (λ effects. IsDifference
+        (seen (take depth change.now.op.now.cursor.path) (S.tree change.now.old.now).now)
+        (seen (take depth change.now.op.now.cursor.path) (S.tree change.now.new.now).now) (differences_of effects)) }
+{
+    let path = change.op.cursor.path.as_slice();
+    if depth == path.len() {
+        return places_at_target(change, contexts);
+    }
+    let at = &path[..depth];
+    let tagged = &path[depth];
+    let inside = contexts_below(change, contexts, at, tagged);
+    let effects = places_along(change, inside, depth + 1)?;
+    place_on_path(change, contexts, at, tagged, effects)
+}
+
+/// All places at which the tree `new` differs from `old`, where the operation led from the one to the other. It looks
+/// at the operation's path and at what is at or below its target, however large the trees are.
+pub fn effects_of<S: TreeStore>(
+    alloc: Global,
+    old: &S,
+    new: &S,
+    op: &Op,
+) -> Result<Effects, AllocError>
+    requires { IsChangedBy op.now (S.tree old.now).now (S.tree new.now).now }
+    ensures { IfOk result (λ effects. IsDifference (S.tree old.now).now (S.tree new.now).now (differences_of effects)) }
+{
+    let change = Change {
+        alloc,
+        old,
+        new,
+        op,
+    };
+    let contexts = Contexts {
+        old: Some(old.root()),
+        new: Some(new.root()),
+    };
+    places_along(&change, contexts, 0)
+}
