@@ -21,8 +21,7 @@ use Rattle.jc_rules.specs.Trace.{Rows, pushed, one_deeper, at_depth}
 use Rattle.jc_rules.specs.Table.{Follows, moved}
 use Rattle.jc_rules.specs.Paths.{HasContext}
 use Rattle.jc_rules.proofs.ContextsAtLemmas.{there, with_node-same, with-same}
-use Rattle.jc_rules.proofs.DerivesLemmas.{by_axiom, one_premise, three_premises, same_rows}
-use Rattle.jc_rules.specs.History.{IsLater}
+use Rattle.jc_rules.proofs.DerivesLemmas.{by_axiom, one_premise, three_premises}
 use Rattle.jc_tree.specs.Tree.{Tree, HasPlace, here, or_no_entries, IsChanged}
 use Rattle.jc_tree.specs.CanGoBack.{TreeCanGoBack}
 use Rattle.jc_tree.proofs.CanGoBackLemmas.{nothing, tree_changed}
@@ -179,10 +178,6 @@ added r at key i was a b t u has z =
     on_ok r (λ tells k m ke ne.
     let x = adds at k key i m was a b (sym ke) ne has z in
     record { after = x.after; derives = tells k i m (here at a) x.after x.added; now = x.now })
-
--- a call that changes the tree alone
-pub only_tree : (a b : Tree) (t u : Rows) → IsLater a b → u ≡ t → TreeCanGoBack a b t u
-only_tree a b t u h e = rw e (record { store = h; trace = same_rows t })
 
 -- a call that changes the tree or refuses
 pub tree_or_refused : {T E : Type 0} (r : Result T E) (at : List Tagged) (y : Context) (a b : Tree) (t u : Rows) → OnOk r (IsChanged at y a b) → OnErr r (b ≡ a) → u ≡ t → TreeCanGoBack a b t u

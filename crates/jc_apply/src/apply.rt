@@ -11,7 +11,7 @@ ghost use Rattle.jc_rules.specs.WellFormed.{IsChained};
 ghost use Rattle.jc_rules.specs.Representation.{Represents};
 ghost use Rattle.jc_rules.specs.Table.{moved, op_of};
 ghost use Rattle.jc_rules.specs.History.{IsLater};
-ghost use Rattle.jc_tree.specs.Tree.{HasPlace, here};
+ghost use Rattle.jc_tree.specs.Tree.{HasPlace, NamesStay, here};
 ghost use Rattle.jc_tree.specs.CanGoBack.{TreeCanGoBack};
 ghost use Rattle.jc_vectors.specs.KnownIds.{KnowsOnly};
 ghost use Rattle.jc_vectors.specs.OperationIds.{ids_of_ops, with_deps};
@@ -52,6 +52,7 @@ fn delete<S: TreeStore>(
     ensures ok { OnOk result (LeadsTo (λ c. Operate c (moved op.now [] op.now.cursor.last op.now.mutation))
         at.now (S.tree store.old) (S.tree store.new) trace.old trace.new) }
     ensures links { OnOk result (LinksNone at.now (S.tree store.old) (S.tree store.new)) }
+    ensures names_stay { NamesStay (S.names store.old) (S.names store.new) }
     ensures kept { TreeCanGoBack (S.tree store.old) (S.tree store.new) trace.old trace.new }
 {
     let depth = trace.depth();
@@ -79,6 +80,7 @@ fn operate_here<S: TreeStore>(
     ensures ok { OnOk result (LeadsTo (λ c. Operate c (moved op.now [] op.now.cursor.last op.now.mutation))
         at.now (S.tree store.old) (S.tree store.new) trace.old trace.new) }
     ensures links { OnOk result (LinksOnly op.now.id (S.tree store.old) (S.tree store.new)) }
+    ensures names_stay { NamesStay (S.names store.old) (S.names store.new) }
     ensures kept { TreeCanGoBack (S.tree store.old) (S.tree store.new) trace.old trace.new }
 {
     match &op.mutation {
@@ -105,6 +107,7 @@ fn add_op<S: TreeStore>(
         at.now (S.tree store.old) (S.tree store.new)) }
     ensures named { OnOk result (S.names store.new place at.now) }
     ensures links { OnOk result (LinksNone at.now (S.tree store.old) (S.tree store.new)) }
+    ensures names_stay { NamesStay (S.names store.old) (S.names store.new) }
     ensures kept { IsLater (S.tree store.old) (S.tree store.new) }
 {
     match &op.mutation {
@@ -137,6 +140,7 @@ fn operate<S: TreeStore>(
         (λ c. Operate c (moved op.now (drop depth op.now.cursor.path) op.now.cursor.last op.now.mutation))
         (take depth op.now.cursor.path) (S.tree store.old) (S.tree store.new) trace.old trace.new) }
     ensures links { OnOk result (LinksOnly op.now.id (S.tree store.old) (S.tree store.new)) }
+    ensures names_stay { NamesStay (S.names store.old) (S.names store.new) }
     ensures kept { TreeCanGoBack (S.tree store.old) (S.tree store.new) trace.old trace.new }
 {
     let path = op.cursor.path.as_slice();
@@ -186,6 +190,7 @@ pub fn apply_op<S: TreeStore>(
         → Refused (Operate (S.tree store.old).now op.now) (because PlaceNotInList) }
     ensures stands_refused { IsErrOf result ApplyFault.NotInList → (deps : List AnyId)
         → Refused (Operate (S.tree store.old).now (with_deps deps op.now)) (because PlaceNotInList) }
+    ensures names_stay { NamesStay (S.names store.old) (S.names store.new) }
     ensures err_store { OnErr result (S.tree store.new ≡ S.tree store.old) }
     ensures err_trace { OnErr result (trace.new ≡ trace.old) }
     ensures kept { TreeCanGoBack (S.tree store.old) (S.tree store.new) trace.old trace.new }

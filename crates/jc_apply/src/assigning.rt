@@ -77,7 +77,7 @@ fn add_id<S: TreeStore>(
         → LeadsTo (λ c. AddId c k id m)
         at.now (S.tree store.old) (S.tree store.new) trace.old trace.new) }
     ensures links { OnOk result (LinksNone at.now (S.tree store.old) (S.tree store.new)) }
-    ensures names_stay { OnOk result (NamesStay (S.names store.old) (S.names store.new)) }
+    ensures names_stay { NamesStay (S.names store.old) (S.names store.new) }
     ensures kept { TreeCanGoBack (S.tree store.old) (S.tree store.new) trace.old trace.new }
 {
     let was = store.add_presence_at(place, at, key, id)?;
@@ -103,7 +103,7 @@ fn assign_primitive<S: TreeStore>(
     ensures ok { OnOk result (LeadsTo (λ c. Operate c (moved op.now [] last.now (Assign value.now)))
         at.now (S.tree store.old) (S.tree store.new) trace.old trace.new) }
     ensures links { OnOk result (LinksNone at.now (S.tree store.old) (S.tree store.new)) }
-    ensures names_stay { OnOk result (NamesStay (S.names store.old) (S.names store.new)) }
+    ensures names_stay { NamesStay (S.names store.old) (S.names store.new) }
     ensures kept { TreeCanGoBack (S.tree store.old) (S.tree store.new) trace.old trace.new }
 {
     let depth = trace.depth();
@@ -148,7 +148,7 @@ fn assign_empty<S: TreeStore>(
         (λ c. Operate c (moved op.now [] (key_of_tagged key.now) (Assign (empty_of key.now))))
         at.now (S.tree store.old) (S.tree store.new) trace.old trace.new) }
     ensures links { OnOk result (LinksNone at.now (S.tree store.old) (S.tree store.new)) }
-    ensures names_stay { OnOk result (NamesStay (S.names store.old) (S.names store.new)) }
+    ensures names_stay { NamesStay (S.names store.old) (S.names store.new) }
     ensures kept { TreeCanGoBack (S.tree store.old) (S.tree store.new) trace.old trace.new }
 {
     let depth = trace.depth();
@@ -177,7 +177,7 @@ pub fn assign<S: TreeStore>(
     ensures ok { OnOk result (LeadsTo (λ c. Operate c (moved op.now [] last.now (Assign value.now)))
         at.now (S.tree store.old) (S.tree store.new) trace.old trace.new) }
     ensures links { OnOk result (LinksNone at.now (S.tree store.old) (S.tree store.new)) }
-    ensures names_stay { OnOk result (NamesStay (S.names store.old) (S.names store.new)) }
+    ensures names_stay { NamesStay (S.names store.old) (S.names store.new) }
     ensures kept { TreeCanGoBack (S.tree store.old) (S.tree store.new) trace.old trace.new }
 {
     match value {

@@ -39,7 +39,7 @@ pub fn enter_below<S: TreeStore>(
     requires context { HasContext key.now }
     ensures ok { OnOk result (Enters key.now at.now (S.tree store.old) (S.tree store.new) trace.old trace.new) }
     ensures named { IfOk result (λ child. S.names store.new child (at.now ++ key.now ∷ [])) }
-    ensures names_stay { OnOk result (NamesStay (S.names store.old) (S.names store.new)) }
+    ensures names_stay { NamesStay (S.names store.old) (S.names store.new) }
     ensures links { OnOk result (LinksNone at.now (S.tree store.old) (S.tree store.new)) }
     ensures kept { TreeCanGoBack (S.tree store.old) (S.tree store.new) trace.old trace.new }
 {

@@ -1,5 +1,5 @@
 -- About Clears: clearing the keys of a map, the least first.
-use Rattle.std.proofs.Common.{◌≡◌, ◌≢◌, ℕ, ◌<◌, List, [], ◌∷◌, length, filter, Option, Some, None, Bool, true, false, not, refl, sym, ◌∙◌, ap, subst}
+use Rattle.std.proofs.Common.{◌≡◌, ◌≢◌, List, [], ◌∷◌, filter, Option, Some, None, Bool, true, false, not, refl, sym, ◌∙◌, ap, subst}
 use Rattle.std.specs.List.{AllByRecursion}
 use Rattle.std.specs.declared.cmp.Ordering.{Ordering}
 use Rattle.std.specs.declared.cmp.Ordering.TheVariants.{Less, Equal, Greater}
@@ -16,22 +16,15 @@ use Rattle.jc_rules.specs.Trace.{Rows, pushed, one_deeper, at_depth}
 use Rattle.jc_tree.specs.Tree.{Tree, HasPlace, here, is_after, least_after}
 use Rattle.jc_tree.proofs.WalksLemmas.{IsNext, next_is, after_over}
 use Rattle.jc_clear.specs.Clears.{Clears}
+use Rattle.jc_clear.specs.ContentKeys.{AreContentKeys}
 use Rattle.jc_clear.proofs.BareLemmas.{keys-same}
 use Rattle.jc_clear.proofs.ClearRulesLemmas.{After}
+use Rattle.jc_clear.proofs.ContentKeysLemmas.{AreLeft, all_left, next_left, first_is_least, none_left}
 use Rattle.jc_clear.proofs.ClearsLemmas.{Turn, first_turn, next_turn, last_turn, after_turns}
 
 filter-same : (p q : Key → Bool) (ks : List Key) → AllByRecursion (λ k. p k ≡ q k) ks → filter p ks ≡ filter q ks
 filter-same p q [] h = refl
 filter-same p q (k ∷ ks) h = rw (h.0, filter-same p q ks h.1) refl
-
--- how many keys are left after one
-abbrev pub left_after : Option Key → Context → ℕ
-left_after last c = length (filter (λ k. is_after last k) (keys c))
-
-one_less : (last : Option Key) (c : Context) (k : Key) → least_after last (keys c) ≡ Some k → left_after (Some k) c < left_after last c
-one_less last c k e =
-    let n : IsNext last (keys c) k = next_is last (keys c) k e in
-    n.fewer
 
 -- what is done are the keys up to one
 abbrev AreDone : Option Key → List Key → List Key → Type 0
@@ -71,16 +64,16 @@ all_not last done (k ∷ ks) h = (not_not _ _ h.0, all_not last done ks h.1)
 left-after : (last : Option Key) (done : List Key) (c : Context) → AreDone last done (keys c) → least_left done c ≡ least_after last (keys c)
 left-after last done c h = ap least (filter-same (λ k. not (is_done done k)) (λ k. is_after last k) (keys c) (all_not last done (keys c) h))
 
--- what the loop over a map's keys keeps
+-- a map's keys up to the last are cleared
 pub record Through (deps : List Id) (at : List Tagged) (a : Tree) (t : Rows) (b : Tree) (last : Option Key) (ids : List Id) (u : Rows) : Type 0 where
   pub done : List Key
   pub are_done : AreDone last done (keys (here at a))
   pub turn : Turn (λ c. ClearMap c deps []) (λ c. ClearMap c deps done) at a t b ids u
 
-pub first_through : (deps : List Id) (at : List Tagged) (a : Tree) (t : Rows) (last : Option Key) (ids : List Id) → HasPlace at a → last ≡ None → ids ≡ [] → Through deps at a t a last ids t
+first_through : (deps : List Id) (at : List Tagged) (a : Tree) (t : Rows) (last : Option Key) (ids : List Id) → HasPlace at a → last ≡ None → ids ≡ [] → Through deps at a t a last ids t
 first_through deps at a t last ids p e i = rw e (record { done = []; are_done = none_done (keys (here at a)); turn = first_turn _ at a t ids p i })
 
-pub after_through : (deps : List Id) (at p : List Tagged) (a : Tree) (t : Rows) (b : Tree) (last : Option Key) (ids : List Id) (u : Rows) → HasPlace at a → p ≡ at → Through deps at a t b last ids u → After at p a b
+after_through : (deps : List Id) (at p : List Tagged) (a : Tree) (t : Rows) (b : Tree) (last : Option Key) (ids : List Id) (u : Rows) → HasPlace at a → p ≡ at → Through deps at a t b last ids u → After at p a b
 after_through deps at p a t b last ids u h e w = after_turns _ _ at p a t b ids u h e w.turn
 
 keys_were : (deps : List Id) (at p : List Tagged) (a : Tree) (t : Rows) (b : Tree) (last : Option Key) (ids : List Id) (u : Rows) → HasPlace at a → p ≡ at → Through deps at a t b last ids u → keys (here p b) ≡ keys (here at a)
@@ -93,20 +86,44 @@ left_now deps at p a t b last ids u w h e =
     left-after last w.done (here at b) (rw same w.are_done) ∙ ap (least_after last) (same ∙ sym also)
 
 -- one key further
-pub through_on : (deps : List Id) (at p q : List Tagged) (a : Tree) (t : Rows) (b d : Tree) (last last2 : Option Key) (k : Key) (ids more all : List Id) (u o v : Rows) → HasPlace at a → p ≡ at → q ≡ at → Through deps at a t b last ids u → least_after last (keys (here p b)) ≡ Some k → Clears (λ c. ClearElem c deps k) q b d more o v → o ≡ one_deeper (pushed u R.ClearMap2) → all ≡ union ids more → last2 ≡ Some k → Through deps at a t d last2 all v × (left_after last2 (here at a) < left_after last (here at a))
+through_on : (deps : List Id) (at p q : List Tagged) (a : Tree) (t : Rows) (b d : Tree) (last last2 : Option Key) (k : Key) (ids more all : List Id) (u o v : Rows) → HasPlace at a → p ≡ at → q ≡ at → Through deps at a t b last ids u → least_after last (keys (here p b)) ≡ Some k → Clears (λ c. ClearElem c deps k) q b d more o v → o ≡ one_deeper (pushed u R.ClearMap2) → all ≡ union ids more → last2 ≡ Some k → Through deps at a t d last2 all v
 through_on deps at p q a t b d last last2 k ids more all u o v h pe qe w n z oe i g =
     let was : least_after last (keys (here at a)) ≡ Some k = ap (least_after last) (sym (keys_were deps at p a t b last ids u h pe w)) ∙ n in
     let now : least_left w.done (here at b) ≡ Some k = left_now deps at p a t b last ids u w h pe ∙ n in
     let elem = subst (λ (y : List Tagged). Clears (λ c. ClearElem c deps k) y b d more o v) qe z in
-    rw g (
-      record {
-        done = k ∷ w.done;
-        are_done = done_next last w.done (here at a) k w.are_done was;
-        turn = next_turn _ (λ c. ClearMap c deps w.done) (λ c. ClearMap c deps (k ∷ w.done)) R.ClearMap2 at a t b d deps k ids more all u o v h w.turn elem oe i (λ c1 c2 s. (k, c1, more, c2, s, now, refl, refl));
-      },
-      one_less last (here at a) k was,
-    )
+    rw g (record {
+      done = k ∷ w.done;
+      are_done = done_next last w.done (here at a) k w.are_done was;
+      turn = next_turn _ (λ c. ClearMap c deps w.done) (λ c. ClearMap c deps (k ∷ w.done)) R.ClearMap2 at a t b d deps k ids more all u o v h w.turn elem oe i (λ c1 c2 s. (k, c1, more, c2, s, now, refl, refl));
+    })
 
-pub last_through : (deps : List Id) (at p : List Tagged) (a : Tree) (t : Rows) (b : Tree) (last : Option Key) (ids : List Id) (u v : Rows) → HasPlace at a → p ≡ at → Through deps at a t b last ids u → least_after last (keys (here p b)) ≡ None → v ≡ at_depth t.depth (pushed u R.ClearMap3) → Clears (λ c. ClearMap c deps []) at a b ids t v
+last_through : (deps : List Id) (at p : List Tagged) (a : Tree) (t : Rows) (b : Tree) (last : Option Key) (ids : List Id) (u v : Rows) → HasPlace at a → p ≡ at → Through deps at a t b last ids u → least_after last (keys (here p b)) ≡ None → v ≡ at_depth t.depth (pushed u R.ClearMap3) → Clears (λ c. ClearMap c deps []) at a b ids t v
 last_through deps at p a t b last ids u v h pe w n e =
     last_turn _ (λ c. ClearMap c deps w.done) R.ClearMap3 at a t b ids u v h w.turn e (left_now deps at p a t b last ids u w h pe ∙ n, refl, refl)
+
+-- what the loop over a map's keys keeps: these are left
+pub record ThroughKeys (deps : List Id) (at : List Tagged) (a : Tree) (t : Rows) (b : Tree) (ks : List Key) (ids : List Id) (u : Rows) : Type 0 where
+  pub last : Option Key
+  pub left : AreLeft last ks (here at a)
+  pub through : Through deps at a t b last ids u
+
+pub first_keys : (deps : List Id) (at : List Tagged) (a : Tree) (t : Rows) (ks : List Key) (ids : List Id) → HasPlace at a → AreContentKeys ks (here at a) → ids ≡ [] → ThroughKeys deps at a t a ks ids t
+first_keys deps at a t ks ids p c i = record { last = None; left = all_left ks (here at a) c; through = first_through deps at a t None ids p refl i }
+
+pub after_keys : (deps : List Id) (at p : List Tagged) (a : Tree) (t : Rows) (b : Tree) (ks : List Key) (ids : List Id) (u : Rows) → HasPlace at a → p ≡ at → ThroughKeys deps at a t b ks ids u → After at p a b
+after_keys deps at p a t b ks ids u h e w = after_through deps at p a t b w.last ids u h e w.through
+
+pub keys_on : (deps : List Id) (at p : List Tagged) (a : Tree) (t : Rows) (b d : Tree) (k : Key) (ks left : List Key) (ids more all : List Id) (u o v : Rows) → HasPlace at a → p ≡ at → left ≡ k ∷ ks → ThroughKeys deps at a t b left ids u → Clears (λ c. ClearElem c deps k) p b d more o v → o ≡ one_deeper (pushed u R.ClearMap2) → all ≡ union ids more → ThroughKeys deps at a t d ks all v
+keys_on deps at p a t b d k ks left ids more all u o v h e f w z oe i =
+    let l : AreLeft w.last (k ∷ ks) (here at a) = subst (λ (js : List Key). AreLeft w.last js (here at a)) f w.left in
+    let n : least_after w.last (keys (here p b)) ≡ Some k = ap (least_after w.last) (keys_were deps at p a t b w.last ids u h e w.through) ∙ first_is_least w.last k ks (here at a) l in
+    record {
+      last = Some k;
+      left = next_left w.last k ks (here at a) l;
+      through = through_on deps at p p a t b d w.last (Some k) k ids more all u o v h e e w.through n z oe i refl;
+    }
+
+pub last_keys : (deps : List Id) (at : List Tagged) (a : Tree) (t : Rows) (b : Tree) (ks : List Key) (ids : List Id) (u v : Rows) → HasPlace at a → ks ≡ [] → ThroughKeys deps at a t b ks ids u → v ≡ at_depth t.depth (pushed u R.ClearMap3) → Clears (λ c. ClearMap c deps []) at a b ids t v
+last_keys deps at a t b ks ids u v h f w e =
+    let l : AreLeft w.last [] (here at a) = subst (λ (js : List Key). AreLeft w.last js (here at a)) f w.left in
+    last_through deps at at a t b w.last ids u v h refl w.through (ap (least_after w.last) (keys_were deps at at a t b w.last ids u h refl w.through) ∙ none_left w.last (here at a) l) e

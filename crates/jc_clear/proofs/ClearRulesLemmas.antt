@@ -1,5 +1,5 @@
 -- About Clears: the rules of clearing at one place.
-use Rattle.std.proofs.Common.{◌≡◌, suc, ◌≤◌, List, [], ◌∷◌, ◌++◌, Some, None, is_some, true, refl, sym, ◌∙◌, ap, subst}
+use Rattle.std.proofs.Common.{◌≡◌, suc, ◌≤◌, List, [], ◌∷◌, ◌++◌, Some, None, is_some, true, Result, Ok, Err, OnOk, OnErr, refl, sym, ◌∙◌, ap, subst}
 use Rattle.jc_rules.specs.declared.id.Id.{Id}
 use Rattle.jc_rules.specs.declared.key.Key.{Key}
 use Rattle.jc_rules.specs.declared.key.Key.TheVariants.{Head}
@@ -10,18 +10,23 @@ use Rattle.jc_rules.specs.declared.rule.Rule.TheVariants as R
 use Rattle.jc_rules.specs.Order.{key_cmp}
 use Rattle.jc_rules.specs.Entries.{find, keys_of}
 use Rattle.jc_rules.specs.Ids.{AreRising, union, without}
-use Rattle.jc_rules.specs.Context.{Context, Node, Values, Register, registers, maps, lists, values_of, content, with_content, presence, with_presence}
+use Rattle.jc_rules.specs.Context.{Context, context, Node, Values, Register, registers, maps, lists, values_of, content, with_content, presence, with_presence}
 use Rattle.jc_rules.specs.ContextsAt.{node_at, with_node_at}
 use Rattle.jc_rules.specs.WellFormed.{IsWellFormedRegister, IsChainedList}
 use Rattle.jc_rules.specs.Derivation.{Question, gives, Clear, ClearAny, ClearElem, ClearMap, ClearList, Presence, ToIds, Cleared}
 use Rattle.jc_rules.specs.Derives.{Derives}
 use Rattle.jc_rules.specs.Trace.{Rows, pushed, one_deeper, at_depth}
 use Rattle.jc_rules.specs.Table.{Follows, kept}
+use Rattle.jc_rules.proofs.OrderLemmas.{keys_total, exact_keys}
+use Rattle.jc_rules.proofs.EntriesLemmas.{put-same}
 use Rattle.jc_rules.proofs.IdsLemmas.{union-rises, without-rises}
 use Rattle.jc_rules.proofs.ContextsAtLemmas.{there, with_node-same, node-below, with_node-below}
 use Rattle.jc_rules.proofs.DerivesLemmas.{by_axiom, one_premise, two_premises, three_premises}
 use Rattle.jc_tree.specs.Nested.{nested}
+use Rattle.jc_rules.specs.History.{IsLater}
+use Rattle.jc_rules.proofs.HistoryLemmas.{still}
 use Rattle.jc_tree.specs.Tree.{Tree, HasPlace, here, IsChanged}
+use Rattle.jc_tree.proofs.TreeLemmas.{later_changed}
 use Rattle.jc_tree.specs.ChainedBelow.{AreChainedBelow}
 use Rattle.jc_clear.specs.Bare.{bare}
 use Rattle.jc_clear.specs.Clears.{Clears}
@@ -49,28 +54,28 @@ clear_none at deps k a b ids t u p h e s i =
 pub no_register : (at : List Tagged) (deps : List Id) (k : Key) (a b : Tree) (ids : List Id) (t u : Rows) → HasPlace at a → find key_cmp k (registers (here at a)) ≡ None → u ≡ pushed t R.ClearNone → b ≡ a → ids ≡ [] → Clears (λ c. Clear c deps (RegT k)) at a b ids t u
 no_register at deps k a b ids t u p h e s i = clear_none at deps (RegT k) a b ids t u p (ap values_of h) e s i
 
-pub clear_values : (at : List Tagged) (deps : List Id) (k : Key) (r left : Register) (a b : Tree) (ids : List Id) (t u : Rows) → find key_cmp k (registers (here at a)) ≡ Some r → left ≡ kept deps r → IsWellFormedRegister left → u ≡ pushed t R.ClearReg → IsChanged at (with_content (RegT k) (Values left) (here at a)) a b → ids ≡ keys_of left → Clears (λ c. Clear c deps (RegT k)) at a b ids t u
+pub clear_values : (at : List Tagged) (deps : List Id) (k : Key) (r left : Register) (a b : Tree) (ids : List Id) (t u : Rows) → find key_cmp k (registers (here at a)) ≡ Some r → left ≡ kept deps r → IsWellFormedRegister left → u ≡ pushed t R.ClearReg → b.now ≡ with_node_at at (with_content (RegT k) (Values left) (here at a)) a.now → ids ≡ keys_of left → Clears (λ c. Clear c deps (RegT k)) at a b ids t u
 clear_values at deps k r left a b ids t u h w rising e s i =
     rw (e, i) (record {
       after = with_content (RegT k) (Values left) (here at a);
       derives = by_axiom R.ClearReg _ _ t (r, ap values_of h, refl, rw w refl);
-      now = s.now;
+      now = s;
       same = bare-register k left r (here at a) h;
       rises = rising.0;
     })
 
-pub clear_elem : (at p q : List Tagged) (deps : List Id) (k : Key) (a b d : Tree) (s1 s2 s3 s4 : List Id) (t o u v w : Rows) → HasPlace at a → o ≡ one_deeper (pushed t R.ClearElem) → Clears (λ c. ClearAny c deps k) at a b s1 o u → p ≡ at → Derives (Presence (here p b) k) (ToIds s2) u v → s3 ≡ without (union s1 s2) deps → q ≡ at → s4 ≡ s3 → IsChanged q (with_presence k s4 (here q b)) b d → w ≡ at_depth t.depth v → Clears (λ c. ClearElem c deps k) at a d s3 t w
+pub clear_elem : (at p q : List Tagged) (deps : List Id) (k : Key) (a b d : Tree) (s1 s2 s3 s4 : List Id) (t o u v w : Rows) → HasPlace at a → o ≡ one_deeper (pushed t R.ClearElem) → Clears (λ c. ClearAny c deps k) at a b s1 o u → p ≡ at → Derives (Presence (here p b) k) (ToIds s2) u v → s3 ≡ without (union s1 s2) deps → q ≡ at → s4 ≡ s3 → d.now ≡ with_node_at q (with_presence k s4 (here q b)) b.now → w ≡ at_depth t.depth v → Clears (λ c. ClearElem c deps k) at a d s3 t w
 clear_elem at p q deps k a b d s1 s2 s3 s4 t o u v w h f any pe pres is qe se put e =
     let y = any.after in
     let hb : here at b ≡ y = then_here at y a b h any.now in
     let first = subst (λ (r : Rows). Derives (ClearAny (here at a) deps k) (Cleared y s1) r u) f any.derives in
     let pres2 = subst (λ (r : List Tagged). Derives (Presence (here r b) k) (ToIds s2) u v) pe pres in
     let second = subst (λ (x : Context). Derives (Presence x k) (ToIds s2) u v) hb pres2 in
-    let put2 = subst (λ (r : List Tagged). IsChanged r (with_presence k s4 (here r b)) b d) qe put in
+    let put2 = subst (λ (r : List Tagged). d.now ≡ with_node_at r (with_presence k s4 (here r b)) b.now) qe put in
     rw (e, is) (record {
       after = with_presence k (without (union s1 s2) deps) y;
       derives = two_premises R.ClearElem _ _ _ _ _ _ t u v first second (y, s1, s2, refl, refl);
-      now = then_now at y _ a b d any.now (put2.now ∙ rw (hb, se, is) refl);
+      now = then_now at y _ a b d any.now (put2 ∙ rw (hb, se, is) refl);
       same = bare-presence k _ y ∙ any.same;
       rises = without-rises (union s1 s2) deps (union-rises s1 s2);
     })
@@ -164,3 +169,21 @@ after_change at p y a b h e f s =
 
 pub after_call : (q : Context → Question) (at p : List Tagged) (a b : Tree) (ids : List Id) (t u : Rows) → HasPlace at a → p ≡ at → Clears q at a b ids t u → After at p a b
 after_call q at p a b ids t u h e x = after_change at p x.after a b h e x.now x.same
+
+-- what is set to what it is stays
+pub presence_stays : (at : List Tagged) (k : Key) (s : List Id) (a : Tree) → HasPlace at a → presence k (here at a) ≡ Some s → a.now ≡ with_node_at at (with_presence k s (here at a)) a.now
+presence_stays at k s a p h = sym (ap (λ c. with_node_at at c a.now) (same (here at a) h) ∙ with_node-same at (here at a) a.now (there at a.now p))
+  where
+    same : (c : Context) → presence k c ≡ Some s → with_presence k s c ≡ c
+    same (context m l r q n) e = ap (λ f. context m l r f n) (put-same keys_total exact_keys k s q e)
+
+pub register_stays : (at : List Tagged) (k : Key) (r left : Register) (a : Tree) → HasPlace at a → find key_cmp k (registers (here at a)) ≡ Some r → r ≡ left → a.now ≡ with_node_at at (with_content (RegT k) (Values left) (here at a)) a.now
+register_stays at k r left a p h e = sym (ap (λ c. with_node_at at c a.now) (same (here at a) (h ∙ ap Some e)) ∙ with_node-same at (here at a) a.now (there at a.now p))
+  where
+    same : (c : Context) → find key_cmp k (registers c) ≡ Some left → with_content (RegT k) (Values left) c ≡ c
+    same (context m l q ps n) f = ap (λ x. context m l x ps n) (put-same keys_total exact_keys k left q f)
+
+-- a call that changes the tree or refuses
+pub later_or_same : {T E : Type 0} (r : Result T E) (at : List Tagged) (y : Context) (a b : Tree) → OnOk r (IsChanged at y a b) → OnErr r (b ≡ a) → IsLater a b
+later_or_same (Ok x) at y a b h k = later_changed at y a b h
+later_or_same (Err x) at y a b h k = subst (λ (t : Tree). IsLater a t) (sym k) (still a)

@@ -5,4 +5,5 @@ pub mod ClearRulesLemmas
 pub mod ClearsLemmas
 pub mod ClearsStandsLemmas
 pub mod ClearListLemmas
+pub mod ContentKeysLemmas
 pub mod ClearMapLemmas

@@ -14,13 +14,18 @@ ghost use Rattle.jc_vectors.specs.OperationIds.{ids_of_ops};
 ghost use Rattle.jc_tree.specs.CanGoBack.{TreeCanGoBack};
 ghost use Rattle.jc_tree.specs.ChainedBelow.{AreChainedBelow};
 ghost use Rattle.jc_tree.specs.Tree.{HasPlace, NamesStay, here};
+ghost use Rattle.jc_rules.specs.Entries.{keys_of};
 ghost use Rattle.jc_clear.specs.Clears.{Clears};
+ghost use Rattle.jc_clear.specs.ContentKeys.{has_content, AreContentKeys};
 
-use crate::registers::{clear_register, presence_of};
+use crate::registers::{clear_register, presence_of, put_presence};
 use crate::sets::{left_out, united};
 use jc_rules::{Id, IdSet, Key, Next, Rule, Tagged, Trace};
 use jc_tree::{Hint, Place, TreeStore, place_of};
 use std::alloc::{AllocError, Global};
+
+/// For a key of which no hint is known.
+const ANYWHERE: Hint = Hint { number: 0 };
 
 /// Clears a key under each tag, and takes the dependencies out of its presence set.
 #[cycle(clearing)]
@@ -31,6 +36,7 @@ fn elem_in<S: TreeStore>(
     place: Place,
     at: &mut Vec<Tagged>,
     key: &Key,
+    hint: Hint,
     trace: &mut Trace,
 ) -> Result<Vec<Id>, AllocError>
     requires there { HasPlace at.old.items (S.tree store.old) }
@@ -39,16 +45,16 @@ fn elem_in<S: TreeStore>(
     ensures ok { IfOk result (λ ids. Clears (λ c. ClearElem c deps.now key.now)
         at.old.items (S.tree store.old) (S.tree store.new) ids.items trace.old trace.new) }
     ensures path { OnOk result (at.new.items ≡ at.old.items) }
-    ensures names_stay { OnOk result (NamesStay (S.names store.old) (S.names store.new)) }
+    ensures names_stay { NamesStay (S.names store.old) (S.names store.new) }
     ensures kept { TreeCanGoBack (S.tree store.old) (S.tree store.new) trace.old trace.new }
 {
     let depth = trace.depth();
     trace.open(Rule::ClearElem)?;
-    let below = any_in(alloc, store, deps, place, at, key, trace)?;
-    let present = presence_of(alloc, store, at.as_slice(), key, trace)?;
+    let below = any_in(alloc, store, deps, place, at, key, hint, trace)?;
+    let present = presence_of(alloc, store, place, at.as_slice(), key, hint, trace)?;
     let all = united(below, present.as_slice())?;
     let ids = left_out(alloc, all.as_slice(), deps)?;
-    store.set_presence(at.as_slice(), key, ids.as_slice())?;
+    put_presence(store, place, at.as_slice(), key, hint, ids.as_slice())?;
     trace.close(depth);
     Ok(ids)
 }
@@ -62,6 +68,7 @@ fn any_in<S: TreeStore>(
     place: Place,
     at: &mut Vec<Tagged>,
     key: &Key,
+    hint: Hint,
     trace: &mut Trace,
 ) -> Result<Vec<Id>, AllocError>
     requires there { HasPlace at.old.items (S.tree store.old) }
@@ -70,14 +77,14 @@ fn any_in<S: TreeStore>(
     ensures ok { IfOk result (λ ids. Clears (λ c. ClearAny c deps.now key.now)
         at.old.items (S.tree store.old) (S.tree store.new) ids.items trace.old trace.new) }
     ensures path { OnOk result (at.new.items ≡ at.old.items) }
-    ensures names_stay { OnOk result (NamesStay (S.names store.old) (S.names store.new)) }
+    ensures names_stay { NamesStay (S.names store.old) (S.names store.new) }
     ensures kept { TreeCanGoBack (S.tree store.old) (S.tree store.new) trace.old trace.new }
 {
     let depth = trace.depth();
     trace.open(Rule::ClearAny)?;
-    let maps = clear_map(alloc, store, deps, place, at, key, trace)?;
-    let lists = clear_list(alloc, store, deps, place, at, key, trace)?;
-    let values = clear_register(alloc, store, deps, place, at.as_slice(), key, trace)?;
+    let maps = clear_map(alloc, store, deps, place, at, key, hint, trace)?;
+    let lists = clear_list(alloc, store, deps, place, at, key, hint, trace)?;
+    let values = clear_register(alloc, store, deps, place, at.as_slice(), key, hint, trace)?;
     let rest = united(lists, values.as_slice())?;
     let ids = united(maps, rest.as_slice())?;
     trace.close(depth);
@@ -93,6 +100,7 @@ fn clear_map<S: TreeStore>(
     place: Place,
     at: &mut Vec<Tagged>,
     key: &Key,
+    hint: Hint,
     trace: &mut Trace,
 ) -> Result<Vec<Id>, AllocError>
     requires there { HasPlace at.old.items (S.tree store.old) }
@@ -101,22 +109,52 @@ fn clear_map<S: TreeStore>(
     ensures ok { IfOk result (λ ids. Clears (λ c. Clear c deps.now (MapT key.now))
         at.old.items (S.tree store.old) (S.tree store.new) ids.items trace.old trace.new) }
     ensures path { OnOk result (at.new.items ≡ at.old.items) }
-    ensures names_stay { OnOk result (NamesStay (S.names store.old) (S.names store.new)) }
+    ensures names_stay { NamesStay (S.names store.old) (S.names store.new) }
     ensures kept { TreeCanGoBack (S.tree store.old) (S.tree store.new) trace.old trace.new }
 {
-    let tagged = Tagged::MapT(key.copy()?);
-    let Some(child) = store.below(place, at.as_slice(), &tagged) else {
-        drop(tagged);
+    let Some(child) = store.map_by(place, at.as_slice(), key, hint) else {
         trace.push(Rule::ClearNone)?;
         return Ok(Vec::new(alloc));
     };
     let depth = trace.depth();
-    at.push(tagged)?;
+    at.push(Tagged::MapT(key.copy()?))?;
     trace.open(Rule::ClearMap1)?;
     let ids = map_in(alloc, store, deps, child, at, trace)?;
     drop(at.pop());
     trace.close(depth);
     Ok(ids)
+}
+
+/// Whether the key has a map, a list or a register in the context at the place.
+fn has_content<S: TreeStore>(store: &S, place: Place, at: &[Tagged], key: &Key, hint: Hint) -> bool
+    requires there { HasPlace at.now (S.tree store.now) }
+    requires named { S.names store.now place at.now }
+    ensures { result ≡ has_content (here at.now (S.tree store.now)) key.now }
+{
+    store.map_by(place, at, key, hint).is_some()
+        || store.list_by(place, at, key, hint).is_some()
+        || store.register_by(place, at, key, hint).is_some()
+}
+
+/// The keys of the context at the place that have a map, a list or a register, rising, each with a hint.
+fn content_keys<S: TreeStore>(
+    alloc: Global,
+    store: &S,
+    place: Place,
+    at: &[Tagged],
+) -> Result<Vec<(Key, Hint)>, AllocError>
+    requires there { HasPlace at.now (S.tree store.now) }
+    requires named { S.names store.now place at.now }
+    ensures { IfOk result (λ keys. AreContentKeys (keys_of keys.items) (here at.now (S.tree store.now))) }
+{
+    let keys = store.keys_at(alloc, place, at)?;
+    let mut left = Vec::new(alloc);
+    for lent in keys.as_slice() {
+        if has_content(store, place, at, lent.0, lent.1) {
+            left.push((lent.0.copy()?, lent.1))?;
+        }
+    }
+    Ok(left)
 }
 
 /// Clears the keys of a map, the least first.
@@ -135,18 +173,16 @@ fn map_in<S: TreeStore>(
     ensures ok { IfOk result (λ ids. Clears (λ c. ClearMap c deps.now [])
         at.old.items (S.tree store.old) (S.tree store.new) ids.items trace.old trace.new) }
     ensures path { OnOk result (at.new.items ≡ at.old.items) }
-    ensures names_stay { OnOk result (NamesStay (S.names store.old) (S.names store.new)) }
+    ensures names_stay { NamesStay (S.names store.old) (S.names store.new) }
     ensures kept { TreeCanGoBack (S.tree store.old) (S.tree store.new) trace.old trace.new }
 {
     let depth = trace.depth();
+    let keys = content_keys(alloc, store, place, at.as_slice())?;
     let mut ids = Vec::new(alloc);
-    let mut last = None;
-    while let Some(key) = store.key_after(at.as_slice(), last.as_ref()) {
+    for (key, hint) in keys.as_slice() {
         trace.open(Rule::ClearMap2)?;
-        let key = key.copy()?;
-        let more = elem_in(alloc, store, deps, place, at, &key, trace)?;
+        let more = elem_in(alloc, store, deps, place, at, key, *hint, trace)?;
         ids = united(ids, more.as_slice())?;
-        last = Some(key);
     }
     trace.push(Rule::ClearMap3)?;
     trace.close(depth);
@@ -162,6 +198,7 @@ fn clear_list<S: TreeStore>(
     place: Place,
     at: &mut Vec<Tagged>,
     key: &Key,
+    hint: Hint,
     trace: &mut Trace,
 ) -> Result<Vec<Id>, AllocError>
     requires there { HasPlace at.old.items (S.tree store.old) }
@@ -170,17 +207,15 @@ fn clear_list<S: TreeStore>(
     ensures ok { IfOk result (λ ids. Clears (λ c. Clear c deps.now (ListT key.now))
         at.old.items (S.tree store.old) (S.tree store.new) ids.items trace.old trace.new) }
     ensures path { OnOk result (at.new.items ≡ at.old.items) }
-    ensures names_stay { OnOk result (NamesStay (S.names store.old) (S.names store.new)) }
+    ensures names_stay { NamesStay (S.names store.old) (S.names store.new) }
     ensures kept { TreeCanGoBack (S.tree store.old) (S.tree store.new) trace.old trace.new }
 {
-    let tagged = Tagged::ListT(key.copy()?);
-    let Some(child) = store.below(place, at.as_slice(), &tagged) else {
-        drop(tagged);
+    let Some(child) = store.list_by(place, at.as_slice(), key, hint) else {
         trace.push(Rule::ClearNone)?;
         return Ok(Vec::new(alloc));
     };
     let depth = trace.depth();
-    at.push(tagged)?;
+    at.push(Tagged::ListT(key.copy()?))?;
     trace.open(Rule::ClearList1)?;
     let ids = list_in(alloc, store, deps, child, at, trace)?;
     drop(at.pop());
@@ -205,21 +240,21 @@ fn list_in<S: TreeStore>(
     ensures ok { IfOk result (λ ids. Clears (λ c. ClearList c deps.now (Some Head))
         at.old.items (S.tree store.old) (S.tree store.new) ids.items trace.old trace.new) }
     ensures path { OnOk result (at.new.items ≡ at.old.items) }
-    ensures names_stay { OnOk result (NamesStay (S.names store.old) (S.names store.new)) }
+    ensures names_stay { NamesStay (S.names store.old) (S.names store.new) }
     ensures kept { TreeCanGoBack (S.tree store.old) (S.tree store.new) trace.old trace.new }
 {
     let depth = trace.depth();
     let mut ids = Vec::new(alloc);
     let mut key = Some(Key::Head);
-    let mut hint = Hint { number: 0 };
+    let mut hint = ANYWHERE;
     while let Some(element) = key {
         let step = store.step_by(place, at.as_slice(), &element, hint);
         let Some(next) = step.next else {
             unreachable!();
         };
-        hint = step.hint;
         trace.open(Rule::ClearList2)?;
-        let more = elem_in(alloc, store, deps, place, at, &element, trace)?;
+        let more = elem_in(alloc, store, deps, place, at, &element, hint, trace)?;
+        hint = step.hint;
         ids = united(ids, more.as_slice())?;
         key = match next {
             Next::Tail => None,
@@ -258,19 +293,19 @@ fn tagged_in<S: TreeStore>(
     requires chained { AreChainedBelow (here at.now (S.tree store.old)) }
     ensures ok { IfOk result (λ ids. Clears (λ c. Clear c deps.now key.now)
         at.now (S.tree store.old) (S.tree store.new) ids.items trace.old trace.new) }
-    ensures names_stay { OnOk result (NamesStay (S.names store.old) (S.names store.new)) }
+    ensures names_stay { NamesStay (S.names store.old) (S.names store.new) }
     ensures kept { TreeCanGoBack (S.tree store.old) (S.tree store.new) trace.old trace.new }
 {
     match key {
         Tagged::MapT(key) => {
             let mut path = copied(alloc, at)?;
-            clear_map(alloc, store, deps, place, &mut path, key, trace)
+            clear_map(alloc, store, deps, place, &mut path, key, ANYWHERE, trace)
         }
         Tagged::ListT(key) => {
             let mut path = copied(alloc, at)?;
-            clear_list(alloc, store, deps, place, &mut path, key, trace)
+            clear_list(alloc, store, deps, place, &mut path, key, ANYWHERE, trace)
         }
-        Tagged::RegT(key) => clear_register(alloc, store, deps, place, at, key, trace),
+        Tagged::RegT(key) => clear_register(alloc, store, deps, place, at, key, ANYWHERE, trace),
     }
 }
 
@@ -299,7 +334,7 @@ pub fn clear<S: TreeStore>(
         → Clears (λ c. Clear c members key.now)
         at.now (S.tree store.old) (S.tree store.new) ids.items trace.old trace.new
         × KnowsOnly (ids_of_ops set) (S.tree store.new).now) }
-    ensures names_stay { OnOk result (NamesStay (S.names store.old) (S.names store.new)) }
+    ensures names_stay { NamesStay (S.names store.old) (S.names store.new) }
     ensures err_store { OnErr result (S.tree store.new ≡ S.tree store.old) }
     ensures err_trace { OnErr result (trace.new ≡ trace.old) }
     ensures kept { TreeCanGoBack (S.tree store.old) (S.tree store.new) trace.old trace.new }
@@ -324,7 +359,7 @@ pub fn clear_at<S: TreeStore>(
     requires chained { IsChained (S.tree store.old).now }
     ensures ok { IfOk result (λ ids. Clears (λ c. Clear c deps.now key.now)
         at.now (S.tree store.old) (S.tree store.new) ids.items trace.old trace.new) }
-    ensures names_stay { OnOk result (NamesStay (S.names store.old) (S.names store.new)) }
+    ensures names_stay { NamesStay (S.names store.old) (S.names store.new) }
     ensures err_store { OnErr result (S.tree store.new ≡ S.tree store.old) }
     ensures err_trace { OnErr result (trace.new ≡ trace.old) }
     ensures kept { TreeCanGoBack (S.tree store.old) (S.tree store.new) trace.old trace.new }
@@ -367,7 +402,7 @@ pub fn clear_elem<S: TreeStore>(
         → Clears (λ c. ClearElem c members key.now)
         at.now (S.tree store.old) (S.tree store.new) ids.items trace.old trace.new
         × KnowsOnly (ids_of_ops set) (S.tree store.new).now) }
-    ensures names_stay { OnOk result (NamesStay (S.names store.old) (S.names store.new)) }
+    ensures names_stay { NamesStay (S.names store.old) (S.names store.new) }
     ensures err_store { OnErr result (S.tree store.new ≡ S.tree store.old) }
     ensures err_trace { OnErr result (trace.new ≡ trace.old) }
     ensures kept { TreeCanGoBack (S.tree store.old) (S.tree store.new) trace.old trace.new }
@@ -392,7 +427,7 @@ pub fn clear_elem_at<S: TreeStore>(
     requires chained { IsChained (S.tree store.old).now }
     ensures ok { IfOk result (λ ids. Clears (λ c. ClearElem c deps.now key.now)
         at.now (S.tree store.old) (S.tree store.new) ids.items trace.old trace.new) }
-    ensures names_stay { OnOk result (NamesStay (S.names store.old) (S.names store.new)) }
+    ensures names_stay { NamesStay (S.names store.old) (S.names store.new) }
     ensures err_store { OnErr result (S.tree store.new ≡ S.tree store.old) }
     ensures err_trace { OnErr result (trace.new ≡ trace.old) }
     ensures kept { TreeCanGoBack (S.tree store.old) (S.tree store.new) trace.old trace.new }
@@ -401,7 +436,7 @@ pub fn clear_elem_at<S: TreeStore>(
     let mut path = copied(alloc, at)?;
     let start = store.mark();
     let first = trace.mark();
-    match elem_in(alloc, store, deps, place, &mut path, key, trace) {
+    match elem_in(alloc, store, deps, place, &mut path, key, ANYWHERE, trace) {
         Ok(ids) => Ok(ids),
         Err(refused) => {
             store.undo_to(start);

@@ -1,8 +1,11 @@
 //! Clearing a register, and reading a presence set: steps of clearing.
 
-ghost use Rattle.std.specs.Prelude.{◌≡◌, IfOk, OnOk, OnErr};
+ghost use Rattle.std.specs.Prelude.{◌≡◌, ◌↔◌, Some, IsTrue, IfOk, OnOk, OnErr, option_copied};
 ghost use Rattle.jc_rules.specs.declared.key.Tagged.TheVariants.{RegT};
 ghost use Rattle.jc_rules.specs.Ids.{AreRising};
+ghost use Rattle.jc_rules.specs.Context.{with_presence};
+ghost use Rattle.jc_rules.specs.ContextsAt.{with_node_at};
+ghost use Rattle.jc_rules.specs.History.{IsLater};
 ghost use Rattle.jc_rules.specs.Derivation.{Presence, Clear, ToIds};
 ghost use Rattle.jc_rules.specs.Derives.{Derives};
 ghost use Rattle.jc_rules.specs.Trace.{IsLonger};
@@ -13,7 +16,7 @@ ghost use Rattle.jc_clear.specs.Clears.{Clears};
 
 use crate::sets::ids_of;
 use jc_rules::{Id, IdSet, Key, Rule, Tagged, Trace, Value};
-use jc_tree::{Place, TreeStore};
+use jc_tree::{Hint, Place, TreeStore};
 use std::alloc::{AllocError, Global};
 
 /// Returns the presence set of the key in the context at the place, rising; the empty set where there
@@ -24,18 +27,21 @@ use std::alloc::{AllocError, Global};
 pub(crate) fn presence_of<S: TreeStore>(
     alloc: Global,
     store: &S,
+    place: Place,
     at: &[Tagged],
     key: &Key,
+    hint: Hint,
     trace: &mut Trace,
 ) -> Result<Vec<Id>, AllocError>
-    requires { HasPlace at.now (S.tree store.now) }
+    requires there { HasPlace at.now (S.tree store.now) }
+    requires named { S.names store.now place at.now }
     ensures ok { IfOk result (λ ids. Derives (Presence (here at.now (S.tree store.now)) key.now)
         (ToIds ids.items) trace.old trace.new) }
     ensures rises { IfOk result (λ ids. AreRising ids.items) }
     ensures err { OnErr result (trace.new ≡ trace.old) }
     ensures kept { IsLonger trace.old trace.new }
 {
-    match store.presence(at, key) {
+    match store.presence_by(place, at, key, hint) {
         Some(ids) => {
             let ids = ids.to_vec(alloc)?;
             trace.push(Rule::Presence1)?;
@@ -46,6 +52,39 @@ pub(crate) fn presence_of<S: TreeStore>(
             Ok(Vec::new(alloc))
         }
     }
+}
+
+/// Whether there is a set, and it has just these identifiers.
+fn is_set(set: Option<&[Id]>, ids: &[Id]) -> bool
+    ensures { IsTrue result ↔ option_copied set.entry ≡ Some ids.now }
+{
+    match set {
+        Some(set) => set == ids,
+        None => false,
+    }
+}
+
+/// Sets the presence set of the key in the context at the place, unless it is that already.
+pub(crate) fn put_presence<S: TreeStore>(
+    store: &mut S,
+    place: Place,
+    at: &[Tagged],
+    key: &Key,
+    hint: Hint,
+    ids: &[Id],
+) -> Result<(), AllocError>
+    requires there { HasPlace at.now (S.tree store.old) }
+    requires named { S.names store.old place at.now }
+    requires rising { AreRising ids.now }
+    ensures ok { OnOk result ((S.tree store.new).now
+        ≡ with_node_at at.now (with_presence key.now ids.now (here at.now (S.tree store.old))) (S.tree store.old).now) }
+    ensures names_stay { NamesStay (S.names store.old) (S.names store.new) }
+    ensures kept { IsLater (S.tree store.old) (S.tree store.new) }
+{
+    if is_set(store.presence_by(place, at, key, hint), ids) {
+        return Ok(());
+    }
+    store.set_presence_at(place, at, key, ids)
 }
 
 /// The pairs whose identifier isn't in the set.
@@ -61,7 +100,14 @@ fn keep(alloc: Global, pairs: &[(Id, Value)], deps: &IdSet) -> Result<Vec<(Id, V
     Ok(left)
 }
 
-/// Clears a register: only the pairs stay whose operation isn't depended on.
+/// Whether these are the same pairs.
+fn is_same(pairs: &[(Id, Value)], others: &[(Id, Value)]) -> bool
+    ensures { IsTrue result ↔ pairs.now ≡ others.now }
+{
+    pairs == others
+}
+
+/// Clears a register: only the pairs stay whose operation isn't depended on. It is set only if one goes.
 pub fn clear_register<S: TreeStore>(
     alloc: Global,
     store: &mut S,
@@ -69,16 +115,17 @@ pub fn clear_register<S: TreeStore>(
     place: Place,
     at: &[Tagged],
     key: &Key,
+    hint: Hint,
     trace: &mut Trace,
 ) -> Result<Vec<Id>, AllocError>
     requires there { HasPlace at.now (S.tree store.old) }
     requires named { S.names store.old place at.now }
     ensures ok { IfOk result (λ ids. Clears (λ c. Clear c deps.now (RegT key.now))
         at.now (S.tree store.old) (S.tree store.new) ids.items trace.old trace.new) }
-    ensures names_stay { OnOk result (NamesStay (S.names store.old) (S.names store.new)) }
+    ensures names_stay { NamesStay (S.names store.old) (S.names store.new) }
     ensures kept { TreeCanGoBack (S.tree store.old) (S.tree store.new) trace.old trace.new }
 {
-    match store.register_at(place, at, key) {
+    match store.register_by(place, at, key, hint) {
         None => {
             trace.push(Rule::ClearNone)?;
             Ok(Vec::new(alloc))
@@ -87,6 +134,9 @@ pub fn clear_register<S: TreeStore>(
             let left = keep(alloc, pairs, deps)?;
             let ids = ids_of(alloc, left.as_slice())?;
             trace.push(Rule::ClearReg)?;
+            if is_same(pairs, left.as_slice()) {
+                return Ok(ids);
+            }
             store.set_register_at(place, at, key, left)?;
             Ok(ids)
         }

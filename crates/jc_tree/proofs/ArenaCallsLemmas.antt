@@ -34,7 +34,7 @@ nodes_left ns vs i x x2 e f s = ap (λ y. slice_set vs i y) (s ∙ f) ∙ set-ge
 pub pushed_ok : {A E X : Type 0} (r : Result A E) (a : A) (xs ys : List X) (x : X) → r ≡ Ok a → ys ≡ (if is_ok r then xs ++ x ∷ [] else xs) → ys ≡ xs ++ x ∷ []
 pushed_ok r a xs ys x e h = h ∙ rw e refl
 
-set_past : (ns : List Flat) (i : ℕ) (x : Flat) → length ns ≤ i → slice_set ns i x ≡ ns
+pub set_past : (ns : List Flat) (i : ℕ) (x : Flat) → length ns ≤ i → slice_set ns i x ≡ ns
 set_past [] i x h = refl
 set_past (n ∷ ns) zero x h = absurd (omega (arith, h))
 set_past (n ∷ ns) (suc i) x h = ap (λ l. n ∷ l) (set_past ns i x (omega (arith, h)))

@@ -75,7 +75,7 @@ none_above k [] a = refl
 none_above k (e ∷ es) a = rw a.0 (none_above k es a.1)
 
 -- what is found behind the first entry has another key
-later_found : (k : Key) (j : ℕ) (e : Key × ℕ) (es : List (Key × ℕ)) → AreSorted (e ∷ es) → find key_cmp k es ≡ Some j → find key_cmp k (e ∷ es) ≡ Some j
+pub later_found : (k : Key) (j : ℕ) (e : Key × ℕ) (es : List (Key × ℕ)) → AreSorted (e ∷ es) → find key_cmp k es ≡ Some j → find key_cmp k (e ∷ es) ≡ Some j
 later_found k j e es s h = go (eq_by_cmp key_cmp k e.0) refl
   where
     go : (b : Bool) → eq_by_cmp key_cmp k e.0 ≡ b → find key_cmp k (e ∷ es) ≡ Some j

@@ -65,7 +65,7 @@ pub below_named : (ns : List Flat) (at : List Tagged) (i : ℕ) (t : Tagged) (x 
 below_named ns at i t x o g path e h = further_down ns at 0 i t path ∙ ap (λ n. child_number t n) (sym e) ∙ sym h
 
 -- where each child is still there, so is each place
-walk_lasts : (ns ms : List Flat) → ((a c : ℕ) (u : Tagged) → child_number u (flat_at ns a) ≡ Some c → child_number u (flat_at ms a) ≡ Some c) → (at : List Tagged) (a j : ℕ) → walk ns a at ≡ Some j → walk ms a at ≡ Some j
+pub walk_lasts : (ns ms : List Flat) → ((a c : ℕ) (u : Tagged) → child_number u (flat_at ns a) ≡ Some c → child_number u (flat_at ms a) ≡ Some c) → (at : List Tagged) (a j : ℕ) → walk ns a at ≡ Some j → walk ms a at ≡ Some j
 walk_lasts ns ms k [] a j h = h
 walk_lasts ns ms k (u ∷ at) a j h = go (child_number u (flat_at ns a)) refl (λ c. walk_lasts ns ms k at c j) h
   where

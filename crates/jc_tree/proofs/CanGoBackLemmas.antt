@@ -6,7 +6,7 @@ use Rattle.jc_rules.specs.declared.key.Tagged.{Tagged}
 use Rattle.jc_rules.specs.Context.{Context}
 use Rattle.jc_rules.specs.Trace.{Rows, IsLonger, pushed, one_deeper, at_depth}
 use Rattle.jc_rules.proofs.DerivesLemmas.{same_rows, longer_still}
-use Rattle.jc_rules.specs.History.{timeline}
+use Rattle.jc_rules.specs.History.{timeline, IsLater}
 use Rattle.jc_tree.specs.Tree.{Tree, IsChanged}
 use Rattle.jc_rules.proofs.HistoryLemmas.{still, later_still, undone}
 use Rattle.jc_tree.proofs.TreeLemmas.{later_changed}
@@ -26,6 +26,9 @@ rows_added a b t u e h = rw e (record { store = still a; trace = h })
 
 pub tree_changed : (a b : Tree) (t u : Rows) (at : List Tagged) (y : Context) → IsChanged at y a b → u ≡ t → TreeCanGoBack a b t u
 tree_changed a b t u at y e f = rw f (record { store = later_changed at y a b e; trace = same_rows t })
+
+pub only_tree : (a b : Tree) (t u : Rows) → IsLater a b → u ≡ t → TreeCanGoBack a b t u
+only_tree a b t u h f = rw f (record { store = h; trace = same_rows t })
 
 pub depth_changed : (a b : Tree) (t u : Rows) (n : ℕ) → b ≡ a → u ≡ at_depth n t → TreeCanGoBack a b t u
 depth_changed a b t u n e f = rw (e, f) (record { store = still a; trace = record { added = []; is = sym (append-nil t.rows) } })

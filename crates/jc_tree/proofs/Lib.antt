@@ -22,6 +22,7 @@ pub mod ArenaStepsLemmas
 pub mod ArenaHistoryLemmas
 pub mod ArenaCallsLemmas
 pub mod ArenaPlacesLemmas
+pub mod ArenaUndoNumbersLemmas
 pub mod CountedLemmas
 pub mod ShownLemmas
 pub mod ShownLeastLemmas

@@ -1,7 +1,8 @@
 -- The earlier contents of the fast store, by its undo records.
-use Rattle.std.specs.Prelude.{ℕ, ◌<◌, List, [], ◌∷◌, length, slice_set}
+use Rattle.std.specs.Prelude.{◌≡◌, ℕ, ◌<◌, List, [], ◌∷◌, length, Some, slice_set}
 use Rattle.std.specs.Coded.{Coded-set, le_prop, ×_prop, Unit-prop, coded_ℕ}
 use Rattle.jc_rules.specs.declared.key.Key.{Key}
+use Rattle.jc_rules.specs.declared.key.Tagged.{Tagged}
 use Rattle.jc_rules.specs.contracts.key.Tagged.{the_row as tagged_row}
 use Rattle.jc_rules.specs.Order.{key_cmp}
 use Rattle.jc_rules.specs.Entries.{keys_of}
@@ -10,7 +11,7 @@ use Rattle.jc_rules.specs.WellFormed.{IsWellFormedContext}
 use Rattle.jc_tree.specs.Sorted.{AreSorted}
 use Rattle.jc_tree.specs.Single.{IsKept-single, IsRising-single}
 use Rattle.jc_tree.specs.Tree.{Tree}
-use Rattle.jc_tree.specs.Arena.{Flat, flat_at, content_of_arena, IsSoundArena, restored_flat}
+use Rattle.jc_tree.specs.Arena.{Flat, flat_at, content_of_arena, IsSoundArena, restored_flat, walk}
 use Rattle.jc_tree.specs.declared.node.Former.{Former}
 use Rattle.jc_tree.specs.declared.node.Former.TheVariants as F
 use Rattle.jc_tree.specs.declared.arena.Undo.{Undo}
@@ -45,6 +46,10 @@ arena_contents (u ∷ us) ns = content_of_arena (arena_undone (u ∷ us) ns) ∷
 
 abbrev pub tree_of_arena : List Flat → List Undo → Tree
 tree_of_arena ns us = record { now = content_of_arena ns; earlier = arena_contents us ns }
+
+-- each path leads to a number in the first that it leads to in the second, if it leads to one
+abbrev pub AreOldNumbers : List Flat → List Flat → Type 0
+AreOldNumbers ms ns = (at : List Tagged) (i : ℕ) → walk ms 0 at ≡ Some i → walk ns 0 at ≡ Some i
 
 -- nodes that are there, sound, and of a kept content
 pub record IsGood (ns : List Flat) : Type 0 where

@@ -40,6 +40,10 @@ pub record IsChanged (at : List Tagged) (y : Context) (old new : Tree) : Type 0 
 abbrev pub NamesStay : (Place → List Tagged → Type 0) → (Place → List Tagged → Type 0) → Type 0
 NamesStay old new = (p : Place) (at : List Tagged) → old p at → new p at
 
+-- each name of a place that both give still names it
+abbrev pub AllNamesStay : (Place → List Tagged → Type 0) → (Place → List Tagged → Type 0) → (Place → List Tagged → Type 0) → Type 0
+AllNamesStay then old new = (p : Place) (at : List Tagged) → then p at → old p at → new p at
+
 -- whether the key comes after the given one, if one is given
 abbrev pub is_after : Option Key → Key → Bool
 is_after None k = true

@@ -9,7 +9,7 @@ ghost use Rattle.jc_tree.specs.Tree.{IsChanged};
 ghost use Rattle.jc_tree.specs.Change.{IsFit, changed_by};
 ghost use Rattle.jc_tree.specs.Arena.{IsInside, content_of_arena, flat_at, former_of_flat, walk};
 ghost use Rattle.jc_tree.specs.Undo.{was_there};
-ghost use Rattle.jc_tree.specs.ArenaUndo.{arena_contents, fewer, arena_undone_once, tree_of_arena, IsGood, AreGood, IsGood-single, AreGood-single};
+ghost use Rattle.jc_tree.specs.ArenaUndo.{arena_contents, fewer, arena_undone_once, tree_of_arena, AreOldNumbers, IsGood, AreGood, IsGood-single, AreGood-single};
 
 use crate::arena_node::{ArenaNode, NodeId};
 use crate::ids::Ids;
@@ -160,6 +160,7 @@ impl ArenaTree {
         ensures undos { length self.new.undos.items + 1 ≡ length self.old.undos.items }
         ensures history { arena_contents self.new.undos.items self.new.nodes.items ++ content_of_arena self.new.nodes.items ∷ []
             ≡ arena_contents self.old.undos.items self.old.nodes.items }
+        ensures numbers { AreOldNumbers self.new.nodes.items self.old.nodes.items }
     {
         if let Some(undo) = self.undos.pop() {
             take_back(&mut self.nodes, undo);
@@ -341,6 +342,31 @@ impl TreeStore for ArenaTree {
     ) -> Result<bool, AllocError> {
         let node = NodeId::new(place.number);
         self.change_node(node, Change::PutValue(key.copy()?, id, value))
+    }
+
+    fn set_presence_at(
+        &mut self,
+        place: Place,
+        at: &[Tagged],
+        key: &Key,
+        ids: &[Id],
+    ) -> Result<(), AllocError> {
+        let ids = Ids::new(ids.to_vec(self.alloc)?);
+        let node = NodeId::new(place.number);
+        self.change_node(node, Change::Presence(key.copy()?, ids))?;
+        Ok(())
+    }
+
+    fn key_after_at(&self, place: Place, at: &[Tagged], above: Option<&Key>) -> Option<&Key> {
+        self.node(NodeId::new(place.number)).key_after(above)
+    }
+
+    fn presence_after_at(&self, place: Place, at: &[Tagged], above: Option<&Key>) -> Option<&Key> {
+        self.node(NodeId::new(place.number)).presence_after(above)
+    }
+
+    fn link_after_at(&self, place: Place, at: &[Tagged], above: Option<&Key>) -> Option<&Key> {
+        self.node(NodeId::new(place.number)).link_after(above)
     }
 
     fn keys_at(

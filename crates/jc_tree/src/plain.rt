@@ -234,6 +234,28 @@ impl TreeStore for PlainTree {
         self.put_value(at, key, id, value)
     }
 
+    fn set_presence_at(
+        &mut self,
+        place: Place,
+        at: &[Tagged],
+        key: &Key,
+        ids: &[Id],
+    ) -> Result<(), AllocError> {
+        self.set_presence(at, key, ids)
+    }
+
+    fn key_after_at(&self, place: Place, at: &[Tagged], above: Option<&Key>) -> Option<&Key> {
+        self.key_after(at, above)
+    }
+
+    fn presence_after_at(&self, place: Place, at: &[Tagged], above: Option<&Key>) -> Option<&Key> {
+        self.presence_after(at, above)
+    }
+
+    fn link_after_at(&self, place: Place, at: &[Tagged], above: Option<&Key>) -> Option<&Key> {
+        self.link_after(at, above)
+    }
+
     fn keys_at(
         &self,
         alloc: Global,

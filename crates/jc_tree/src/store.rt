@@ -13,7 +13,7 @@ ghost use Rattle.jc_rules.specs.ContextsAt.{node_in};
 ghost use Rattle.jc_rules.specs.WellFormed.{IsWellFormedContext, IsWellFormedRegister};
 ghost use Rattle.jc_tree.specs.declared.store.Place.{Place as AnyPlace};
 ghost use Rattle.jc_rules.specs.History.{timeline, begun};
-ghost use Rattle.jc_tree.specs.Tree.{Tree, HasPlace, here, or_no_entries, IsChanged, NamesStay, least_after, has_ids, count_present, all_keys, keys_lent};
+ghost use Rattle.jc_tree.specs.Tree.{Tree, HasPlace, here, or_no_entries, IsChanged, NamesStay, AllNamesStay, least_after, has_ids, count_present, all_keys, keys_lent};
 
 use jc_rules::{Id, Key, Next, Tagged, Value};
 use std::alloc::{AllocError, Global};
@@ -292,6 +292,43 @@ pub trait TreeStore {
         ensures names_stay { NamesStay (names self.old) (names self.new) }
         ensures err { OnErr result (tree self.new ≡ tree self.old) };
 
+    /// As `set_presence`, for a place whose name is known.
+    fn set_presence_at(
+        &mut self,
+        place: Place,
+        at: &[Tagged],
+        key: &Key,
+        ids: &[Id],
+    ) -> Result<(), AllocError>
+        requires there { HasPlace at.now (tree self.old) }
+        requires named { names self.old place at.now }
+        requires rising { AreRising ids.now }
+        ensures ok { OnOk result (IsChanged at.now
+            (with_presence key.now ids.now (here at.now (tree self.old)))
+            (tree self.old) (tree self.new)) }
+        ensures names_stay { NamesStay (names self.old) (names self.new) }
+        ensures err { OnErr result (tree self.new ≡ tree self.old) };
+
+    /// As `key_after`, for a place whose name is known.
+    fn key_after_at(&self, place: Place, at: &[Tagged], above: Option<&Key>) -> Option<&Key>
+        requires there { HasPlace at.now (tree self.now) }
+        requires named { names self.now place at.now }
+        ensures { option_copied result ≡ least_after (option_copied above.entry) (keys (here at.now (tree self.now))) };
+
+    /// As `presence_after`, for a place whose name is known.
+    fn presence_after_at(&self, place: Place, at: &[Tagged], above: Option<&Key>) -> Option<&Key>
+        requires there { HasPlace at.now (tree self.now) }
+        requires named { names self.now place at.now }
+        ensures { option_copied result
+            ≡ least_after (option_copied above.entry) (keys_of (presences (here at.now (tree self.now)))) };
+
+    /// As `link_after`, for a place whose name is known.
+    fn link_after_at(&self, place: Place, at: &[Tagged], above: Option<&Key>) -> Option<&Key>
+        requires there { HasPlace at.now (tree self.now) }
+        requires named { names self.now place at.now }
+        ensures { option_copied result ≡ least_after (option_copied above.entry)
+            (keys_of (links (here at.now (tree self.now)))) };
+
     /// The keys of the context at the place, rising, each with a hint for it. Each key under which
     /// something stands is one of them; others may be too. `place` is the store's name for the place.
     fn keys_at(
@@ -343,10 +380,13 @@ pub trait TreeStore {
     fn mark(&self) -> Mark
         ensures { result.changes ≡ length (tree self.now).earlier };
 
-    /// Goes back to the content at the mark: a rollback. It takes no memory.
+    /// Goes back to the content at the mark: a rollback. It takes no memory. A name stays that a store
+    /// with this content gave: a name of a place that was there at the mark, if it still was one.
     fn undo_to(&mut self, mark: Mark)
         requires { mark.changes ≤ length (tree self.old).earlier }
-        ensures { timeline (tree self.new) ≡ take (mark.changes + 1) (timeline (tree self.old)) };
+        ensures content { timeline (tree self.new) ≡ take (mark.changes + 1) (timeline (tree self.old)) }
+        ensures names_stay { (then : Self) → tree then ≡ tree self.new
+            → AllNamesStay (names then) (names self.old) (names self.new) };
 
     /// Gives up the earlier contents, so that earlier marks are valid no more: a commit.
     fn forget_marks(&mut self)

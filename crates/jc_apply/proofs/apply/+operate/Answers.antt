@@ -6,13 +6,12 @@ use Rattle.jc_rules.specs.Derivation.{Operate}
 use Rattle.jc_rules.specs.Table.{moved}
 use Rattle.jc_rules.specs.Trace.{Rows, pushed, one_deeper, at_depth}
 use Rattle.jc_tree.specs.Tree.{HasPlace, here}
-use Rattle.jc_tree.proofs.CanGoBackLemmas.{then, rule_opened, rows_added, depth_changed}
+use Rattle.jc_tree.proofs.CanGoBackLemmas.{then, rule_opened, rows_added, only_tree, depth_changed}
 use Rattle.jc_apply.specs.Fits.{Fits}
 use Rattle.jc_apply.specs.AppliesAlong.{LeadsTo}
 use Rattle.jc_apply.proofs.DescendLemmas.{way, place_added, child_added, child_place, child_here, descended}
 use Rattle.jc_apply.proofs.FitsBelowLemmas.{fits_below}
 use Rattle.jc_apply.proofs.LinksLemmas.{none_then, only_after}
-use Rattle.jc_apply.proofs.ApplyRulesLemmas.{only_tree}
 use Rattle.jc_apply.proofs.apply.+operate.Goals as goal
 
 pub add_op-requires : goal.add_op-requires

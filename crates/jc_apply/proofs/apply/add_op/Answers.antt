@@ -12,5 +12,6 @@ returns-in_ok-was-in_default g c = record {
   ok = adds c.args.at.now c.args.key.now c.key.result.now c.args.op.now.id c.args.op.now.mutation _ _ _ c.key.ensures c.in_default.not-Delete c.in_ok-was-in_default.ensures.was c.in_ok-was-in_default.ensures.ok;
   named = c.in_ok-was-in_default.ensures.names_stay _ _ c.requires.named;
   links = none_presence c.args.at.now c.key.result.now _ _ _ c.requires.there c.in_ok-was-in_default.ensures.ok;
+  names_stay = c.in_ok-was-in_default.ensures.names_stay;
   kept = later_changed c.args.at.now _ _ _ c.in_ok-was-in_default.ensures.ok;
 }

@@ -1,17 +1,18 @@
-use Rattle.std.proofs.Common.{rules, ◌≡◌, None, Some, Option, ℕ, [], ◌∷◌, ◌++◌, ap, sym, ◌∙◌, refl, arith}
+use Rattle.std.proofs.Common.{rules, ◌≡◌, None, Some, ℕ, ◌+◌, [], ◌∷◌, ◌++◌, drop, ap, sym, ◌∙◌, refl, arith}
+use Rattle.std.proofs.lemmas.List.{drop_more, drop_all}
 use Rattle.jc_rules.specs.declared.key.Key.{Key}
 use Rattle.jc_rules.specs.declared.key.Tagged.TheVariants.{MapT, ListT}
 use Rattle.jc_rules.specs.declared.rule.Rule.TheVariants as R
 use Rattle.jc_rules.specs.Ids.{union, without}
-use Rattle.jc_rules.specs.Context.{keys}
+use Rattle.jc_rules.specs.Entries.{keys_of}
 use Rattle.jc_rules.specs.Table.{after}
 use Rattle.jc_rules.specs.Trace.{Rows, at_depth}
-use Rattle.jc_tree.specs.Tree.{here, least_after}
-use Rattle.jc_tree.proofs.PlacesLemmas.{some_content}
+use Rattle.jc_tree.specs.Tree.{here}
+use Rattle.jc_clear.specs.ContentKeys.{AreContentKeys}
 use Rattle.jc_tree.proofs.ChainedBelowLemmas.{below-list}
-use Rattle.jc_tree.proofs.CanGoBackLemmas.{nothing, then, rule_opened, rule_added, rows_added, tree_changed, depth_changed}
+use Rattle.jc_tree.proofs.CanGoBackLemmas.{nothing, then, rule_opened, rule_added, rows_added, only_tree, depth_changed}
 use Rattle.jc_clear.proofs.ClearListLemmas.{first_along, after_along, along_finds, along_on, last_along}
-use Rattle.jc_clear.proofs.ClearMapLemmas.{first_through, after_through, through_on, last_through}
+use Rattle.jc_clear.proofs.ClearMapLemmas.{first_keys, after_keys, keys_on, last_keys}
 use Rattle.jc_clear.proofs.ClearRulesLemmas.{after_call, clear_none, clear_elem, rises_left, clear_any, down_map, down_list, map_cleared, list_cleared}
 use Rattle.jc_clear.proofs.clearing.+clearing.Goals.{list_in-in-Tail, list_in-in-Elem}
 use Rattle.jc_clear.proofs.clearing.+clearing.Goals as goal
@@ -44,58 +45,58 @@ any_in-returns-clause-kept g t c =
 
 pub clear_map-returns-in_default-clause-ok : goal.clear_map-returns-in_default-clause-ok
 clear_map-returns-in_default-clause-ok g t c =
-    let e = rw (c.as_slice.ensures.value, c.in_ok-copy.ensures) at c.in_default.ensures.some in
-    clear_none _ _ _ _ _ _ _ _ c.requires.there (none_of _ (sym (e ∙ some_content (MapT c.args.key.now) (here c.args.at.now.items (g.S.TreeStore.tree c.args.store.now)) tt))) c.in_ok-push.ensures.ok refl c.new.ensures.items
+    let e = rw c.as_slice.ensures.value at c.in_default.ensures.some in
+    clear_none _ _ _ _ _ _ _ _ c.requires.there (none_of _ (sym e)) c.in_ok-push.ensures.ok refl c.new.ensures.items
 
 pub clear_map-map_in-requires : goal.clear_map-map_in-requires
 clear_map-map_in-requires g t c =
-    let e = rw (c.as_slice.ensures.value, c.in_ok-copy.ensures) at c.in-Some.ensures.some in
-    let x = down_map c.args.at.now.items _ c.args.key.now (g.S.TreeStore.tree c.args.store.now) c.requires.there (c.in_ok-push-2.ensures.items ∙ ap (λ (k : Key). c.args.at.now.items ++ MapT k ∷ []) c.in_ok-copy.ensures) (sym (e ∙ some_content (MapT c.args.key.now) (here c.args.at.now.items (g.S.TreeStore.tree c.args.store.now)) tt)) c.requires.chained in
-    λ κs h. (omega (arith, x.smaller), (h, (x.there, (rw c.in_ok-push-2.ensures.items (rw c.as_slice.ensures.value at c.in-Some.ensures.named), x.chained))))
+    let e = rw c.as_slice.ensures.value at c.in-Some.ensures.some in
+    let x = down_map c.args.at.now.items _ c.args.key.now (g.S.TreeStore.tree c.args.store.now) c.requires.there (c.in_ok-push-2.ensures.items ∙ ap (λ (k : Key). c.args.at.now.items ++ MapT k ∷ []) c.in_ok-copy.ensures) (sym e) c.requires.chained in
+    λ κs h. (omega (arith, x.smaller), (h, (x.there, (rw (c.in_ok-push-2.ensures.items, c.in_ok-copy.ensures) (rw c.as_slice.ensures.value at c.in-Some.ensures.named), x.chained))))
 
 pub clear_map-returns-clause-ok : goal.clear_map-returns-clause-ok
 clear_map-returns-clause-ok g t c =
-    let e = rw (c.as_slice.ensures.value, c.in_ok-copy.ensures) at c.in-Some.ensures.some in
-    map_cleared _ _ _ _ _ _ _ _ _ _ _ c.requires.there (sym (e ∙ some_content (MapT c.args.key.now) (here c.args.at.now.items (g.S.TreeStore.tree c.args.store.now)) tt)) (c.in_ok-push-2.ensures.items ∙ ap (λ (k : Key). c.args.at.now.items ++ MapT k ∷ []) c.in_ok-copy.ensures) c.in_ok-open.ensures.ok c.in_ok-ids.ensures.ok (c.close.ensures ∙ ap (λ (n : ℕ). at_depth n c.map_in.new.trace) c.depth-depth.ensures)
+    let e = rw c.as_slice.ensures.value at c.in-Some.ensures.some in
+    map_cleared _ _ _ _ _ _ _ _ _ _ _ c.requires.there (sym e) (c.in_ok-push-2.ensures.items ∙ ap (λ (k : Key). c.args.at.now.items ++ MapT k ∷ []) c.in_ok-copy.ensures) c.in_ok-open.ensures.ok c.in_ok-ids.ensures.ok (c.close.ensures ∙ ap (λ (n : ℕ). at_depth n c.map_in.new.trace) c.depth-depth.ensures)
 
 pub clear_list-returns-in_default-clause-ok : goal.clear_list-returns-in_default-clause-ok
 clear_list-returns-in_default-clause-ok g t c =
-    let e = rw (c.as_slice.ensures.value, c.in_ok-copy.ensures) at c.in_default.ensures.some in
-    clear_none _ _ _ _ _ _ _ _ c.requires.there (none_of _ (sym (e ∙ some_content (ListT c.args.key.now) (here c.args.at.now.items (g.S.TreeStore.tree c.args.store.now)) tt))) c.in_ok-push.ensures.ok refl c.new.ensures.items
+    let e = rw c.as_slice.ensures.value at c.in_default.ensures.some in
+    clear_none _ _ _ _ _ _ _ _ c.requires.there (none_of _ (sym e)) c.in_ok-push.ensures.ok refl c.new.ensures.items
 
 pub clear_list-list_in-requires : goal.clear_list-list_in-requires
 clear_list-list_in-requires g t c =
-    let e = rw (c.as_slice.ensures.value, c.in_ok-copy.ensures) at c.in-Some.ensures.some in
-    let x = down_list c.args.at.now.items _ c.args.key.now (g.S.TreeStore.tree c.args.store.now) c.requires.there (c.in_ok-push-2.ensures.items ∙ ap (λ (k : Key). c.args.at.now.items ++ ListT k ∷ []) c.in_ok-copy.ensures) (sym (e ∙ some_content (ListT c.args.key.now) (here c.args.at.now.items (g.S.TreeStore.tree c.args.store.now)) tt)) c.requires.chained in
-    λ κs h. (omega (arith, x.smaller), (h, (x.there, (rw c.in_ok-push-2.ensures.items (rw c.as_slice.ensures.value at c.in-Some.ensures.named), x.chained))))
+    let e = rw c.as_slice.ensures.value at c.in-Some.ensures.some in
+    let x = down_list c.args.at.now.items _ c.args.key.now (g.S.TreeStore.tree c.args.store.now) c.requires.there (c.in_ok-push-2.ensures.items ∙ ap (λ (k : Key). c.args.at.now.items ++ ListT k ∷ []) c.in_ok-copy.ensures) (sym e) c.requires.chained in
+    λ κs h. (omega (arith, x.smaller), (h, (x.there, (rw (c.in_ok-push-2.ensures.items, c.in_ok-copy.ensures) (rw c.as_slice.ensures.value at c.in-Some.ensures.named), x.chained))))
 
 pub clear_list-returns-clause-ok : goal.clear_list-returns-clause-ok
 clear_list-returns-clause-ok g t c =
-    let e = rw (c.as_slice.ensures.value, c.in_ok-copy.ensures) at c.in-Some.ensures.some in
-    list_cleared _ _ _ _ _ _ _ _ _ _ _ c.requires.there (sym (e ∙ some_content (ListT c.args.key.now) (here c.args.at.now.items (g.S.TreeStore.tree c.args.store.now)) tt)) (c.in_ok-push-2.ensures.items ∙ ap (λ (k : Key). c.args.at.now.items ++ ListT k ∷ []) c.in_ok-copy.ensures) c.in_ok-open.ensures.ok c.in_ok-ids.ensures.ok (c.close.ensures ∙ ap (λ (n : ℕ). at_depth n c.list_in.new.trace) c.depth-depth.ensures)
+    let e = rw c.as_slice.ensures.value at c.in-Some.ensures.some in
+    list_cleared _ _ _ _ _ _ _ _ _ _ _ c.requires.there (sym e) (c.in_ok-push-2.ensures.items ∙ ap (λ (k : Key). c.args.at.now.items ++ ListT k ∷ []) c.in_ok-copy.ensures) c.in_ok-open.ensures.ok c.in_ok-ids.ensures.ok (c.close.ensures ∙ ap (λ (n : ℕ). at_depth n c.list_in.new.trace) c.depth-depth.ensures)
 
-pub elem_in-presence_of-requires : goal.elem_in-presence_of-requires
-elem_in-presence_of-requires g t c =
+pub elem_in-presence_of-requires-clause-there : goal.elem_in-presence_of-requires-clause-there
+elem_in-presence_of-requires-clause-there g t c =
     (after_call _ _ _ _ _ _ _ _ c.requires.there (c.as_slice.ensures.value ∙ c.in_ok-below.ensures.path) c.in_ok-below.ensures.ok).there
 
 pub elem_in-united-requires : goal.elem_in-united-requires
 elem_in-united-requires g t c = c.in_ok-below.ensures.ok.rises
 
-pub elem_in-set_presence-requires-clause-there : goal.elem_in-set_presence-requires-clause-there
-elem_in-set_presence-requires-clause-there g t c =
+pub elem_in-put_presence-requires-clause-there : goal.elem_in-put_presence-requires-clause-there
+elem_in-put_presence-requires-clause-there g t c =
     (after_call _ _ _ _ _ _ _ _ c.requires.there (c.as_slice-4.ensures.value ∙ c.in_ok-below.ensures.path) c.in_ok-below.ensures.ok).there
 
-pub elem_in-set_presence-requires-clause-rising : goal.elem_in-set_presence-requires-clause-rising
-elem_in-set_presence-requires-clause-rising g t c =
+pub elem_in-put_presence-requires-clause-rising : goal.elem_in-put_presence-requires-clause-rising
+elem_in-put_presence-requires-clause-rising g t c =
     rises_left c.args.deps.now c.in_ok-below.below.items c.as_slice-3.result.now c.as_slice-2.result.now _ _ c.in_ok-all.ensures c.as_slice-3.ensures.value (c.as_slice-5.ensures.value ∙ c.in_ok-ids.ensures)
 
 pub elem_in-returns-clause-ok : goal.elem_in-returns-clause-ok
 elem_in-returns-clause-ok g t c =
-    clear_elem _ _ _ _ _ _ _ _ _ _ _ _ _ _ _ _ _ c.requires.there c.in_ok-open.ensures.ok c.in_ok-below.ensures.ok (c.as_slice.ensures.value ∙ c.in_ok-below.ensures.path) c.in_ok-present.ensures.ok (c.in_ok-ids.ensures ∙ ap (λ x. without x c.args.deps.now) (c.as_slice-3.ensures.value ∙ c.in_ok-all.ensures ∙ ap (union c.in_ok-below.below.items) c.as_slice-2.ensures.value)) (c.as_slice-4.ensures.value ∙ c.in_ok-below.ensures.path) c.as_slice-5.ensures.value c.in_ok-set_presence.ensures.ok (c.close.ensures ∙ ap (λ (n : ℕ). at_depth n c.presence_of.new.trace) c.depth-depth.ensures)
+    clear_elem _ _ _ _ _ _ _ _ _ _ _ _ _ _ _ _ _ c.requires.there c.in_ok-open.ensures.ok c.in_ok-below.ensures.ok (c.as_slice.ensures.value ∙ c.in_ok-below.ensures.path) c.in_ok-present.ensures.ok (c.in_ok-ids.ensures ∙ ap (λ x. without x c.args.deps.now) (c.as_slice-3.ensures.value ∙ c.in_ok-all.ensures ∙ ap (union c.in_ok-below.below.items) c.as_slice-2.ensures.value)) (c.as_slice-4.ensures.value ∙ c.in_ok-below.ensures.path) c.as_slice-5.ensures.value c.in_ok-put_presence.ensures.ok (c.close.ensures ∙ ap (λ (n : ℕ). at_depth n c.presence_of.new.trace) c.depth-depth.ensures)
 
 pub elem_in-returns-clause-kept : goal.elem_in-returns-clause-kept
 elem_in-returns-clause-kept g t c =
-    then _ _ _ _ _ _ (rule_opened _ _ _ _ R.ClearElem refl c.in_ok-open.ensures.ok) (then _ _ _ _ _ _ c.in_ok-below.ensures.kept (then _ _ _ _ _ _ (rows_added _ _ _ _ refl c.in_ok-present.ensures.kept) (then _ _ _ _ _ _ (tree_changed _ _ _ _ _ _ c.in_ok-set_presence.ensures.ok refl) (depth_changed _ _ _ _ _ refl c.close.ensures))))
+    then _ _ _ _ _ _ (rule_opened _ _ _ _ R.ClearElem refl c.in_ok-open.ensures.ok) (then _ _ _ _ _ _ c.in_ok-below.ensures.kept (then _ _ _ _ _ _ (rows_added _ _ _ _ refl c.in_ok-present.ensures.kept) (then _ _ _ _ _ _ (only_tree _ _ _ _ c.in_ok-put_presence.ensures.kept refl) (depth_changed _ _ _ _ _ refl c.close.ensures))))
 
 pub list_in-loop-key-init : goal.list_in-loop-key-init
 list_in-loop-key-init g t c =
@@ -140,32 +141,21 @@ list_in-returns-clause-ok g t c =
 
 pub map_in-loop-key-init : goal.map_in-loop-key-init
 map_in-loop-key-init g t c =
-    record { through = first_through _ _ _ _ _ _ c.requires.there refl c.new-ids.ensures.items; path = refl; names_stay = λ p q h. h; kept = nothing _ _ _ _ refl refl }
-
-pub map_in-key_after-requires : goal.map_in-key_after-requires
-map_in-key_after-requires g t c =
-    (after_through _ _ _ _ _ _ _ _ _ c.requires.there (c.as_slice.ensures.value ∙ c.loop-key.invariant.path) c.loop-key.invariant.through).there
+    let keys : AreContentKeys (keys_of c.as_slice-key-items.result.now) (here c.args.at.now.items (g.S.TreeStore.tree c.args.store.now)) = rw (c.as_slice-key-items.ensures.value, ← c.as_slice.ensures.value) c.in_ok-keys.ensures in
+    record { through = first_keys _ _ _ _ _ _ c.requires.there keys c.new-ids.ensures.items; path = refl; names_stay = λ p q h. h; kept = nothing _ _ _ _ refl refl }
 
 pub map_in-elem_in-requires : goal.map_in-elem_in-requires
 map_in-elem_in-requires g t c =
-    let x = after_through _ _ _ _ _ _ _ _ _ c.requires.there c.loop-key.invariant.path c.loop-key.invariant.through in
+    let x = after_keys _ _ _ _ _ _ _ _ _ c.requires.there c.loop-key.invariant.path c.loop-key.invariant.through in
     λ κs h. (omega (arith, x.nested), (h, (x.there, (rw c.loop-key.invariant.path (c.loop-key.invariant.names_stay _ _ c.requires.named), x.below c.requires.chained))))
 
 pub map_in-united-requires : goal.map_in-united-requires
-map_in-united-requires g t c = c.loop-key.invariant.through.turn.rises
-
-pub map_in-loop-key-smaller : goal.map_in-loop-key-smaller
-map_in-loop-key-smaller g t c =
-    let ks = keys (here c.as_slice.result.now (g.S.TreeStore.tree c.loop-key.store)) in
-    let n : least_after c.loop-key.last ks ≡ Some c.in_ok-key.key = ap (λ (o : Option Key). least_after o ks) (sym c.as_ref.ensures.value) ∙ sym c.in-Some.ensures ∙ ap Some (sym c.in_ok-key.ensures) in
-    (through_on _ _ _ _ _ _ _ _ _ _ _ _ _ _ _ _ _ c.requires.there (c.as_slice.ensures.value ∙ c.loop-key.invariant.path) c.loop-key.invariant.path c.loop-key.invariant.through n c.in_ok-more.ensures.ok c.in_ok-open.ensures.ok (c.in_ok-ids.ensures ∙ ap (union c.loop-key.ids.items) c.as_slice-in-Some.ensures.value) refl).1
+map_in-united-requires g t c = c.loop-key.invariant.through.through.turn.rises
 
 pub map_in-loop-key-preserved : goal.map_in-loop-key-preserved
 map_in-loop-key-preserved g t c =
-    let ks = keys (here c.as_slice.result.now (g.S.TreeStore.tree c.loop-key.store)) in
-    let n : least_after c.loop-key.last ks ≡ Some c.in_ok-key.key = ap (λ (o : Option Key). least_after o ks) (sym c.as_ref.ensures.value) ∙ sym c.in-Some.ensures ∙ ap Some (sym c.in_ok-key.ensures) in
     record {
-      through = (through_on _ _ _ _ _ _ _ _ _ _ _ _ _ _ _ _ _ c.requires.there (c.as_slice.ensures.value ∙ c.loop-key.invariant.path) c.loop-key.invariant.path c.loop-key.invariant.through n c.in_ok-more.ensures.ok c.in_ok-open.ensures.ok (c.in_ok-ids.ensures ∙ ap (union c.loop-key.ids.items) c.as_slice-in-Some.ensures.value) refl).0;
+      through = keys_on _ _ _ _ _ _ _ _ _ _ _ _ _ _ _ _ c.requires.there c.loop-key.invariant.path (ap keys_of (drop_more c.as_slice-key-items.result.now c.loop-key.key-index c.loop-key-item.result c.loop-key-test.true ∙ ap (λ e. e ∷ drop (c.loop-key.key-index + 1) c.as_slice-key-items.result.now) (sym c.loop-key-item.is))) c.loop-key.invariant.through c.in_ok-more.ensures.ok c.in_ok-open.ensures.ok (c.in_ok-ids.ensures ∙ ap (union c.loop-key.ids.items) c.as_slice-in-loop-key.ensures.value);
       path = c.in_ok-more.ensures.path ∙ c.loop-key.invariant.path;
       names_stay = λ p q h. c.in_ok-more.ensures.names_stay p q (c.loop-key.invariant.names_stay p q h);
       kept = then _ _ _ _ _ _ c.loop-key.invariant.kept (then _ _ _ _ _ _ (rule_opened _ _ _ _ R.ClearMap2 refl c.in_ok-open.ensures.ok) c.in_ok-more.ensures.kept);
@@ -173,9 +163,7 @@ map_in-loop-key-preserved g t c =
 
 pub map_in-returns-clause-ok : goal.map_in-returns-clause-ok
 map_in-returns-clause-ok g t c =
-    let ks = keys (here c.as_slice.result.now (g.S.TreeStore.tree c.loop-key.store)) in
-    let n : least_after c.loop-key.last ks ≡ None = ap (λ (o : Option Key). least_after o ks) (sym c.as_ref.ensures.value) ∙ sym c.in_default.ensures in
-    last_through _ _ _ _ _ _ _ _ _ _ c.requires.there (c.as_slice.ensures.value ∙ c.loop-key.invariant.path) c.loop-key.invariant.through n (c.close.ensures ∙ ap (λ (n : ℕ). at_depth n c.push.new.self) c.depth-depth.ensures ∙ ap (λ (r : Rows). at_depth c.args.trace.now.depth r) c.in_ok-push.ensures.ok)
+    last_keys _ _ _ _ _ _ _ _ _ c.requires.there (ap keys_of (drop_all c.loop-key.key-index c.as_slice-key-items.result.now c.loop-key-test.false)) c.loop-key.invariant.through (c.close.ensures ∙ ap (λ (n : ℕ). at_depth n c.push.new.self) c.depth-depth.ensures ∙ ap (λ (r : Rows). at_depth c.args.trace.now.depth r) c.in_ok-push.ensures.ok)
 
 pub any_in-returns-in_err-open-clause-kept : goal.any_in-returns-in_err-open-clause-kept
 any_in-returns-in_err-open-clause-kept g t c = nothing _ _ _ _ refl c.in_err-open.ensures.err
@@ -210,8 +198,8 @@ elem_in-returns-in_err-all-clause-kept g t c = then _ _ _ _ _ _ (rule_opened _ _
 pub elem_in-returns-in_err-ids-clause-kept : goal.elem_in-returns-in_err-ids-clause-kept
 elem_in-returns-in_err-ids-clause-kept g t c = then _ _ _ _ _ _ (rule_opened _ _ _ _ R.ClearElem refl c.in_ok-open.ensures.ok) (then _ _ _ _ _ _ c.in_ok-below.ensures.kept (rows_added _ _ _ _ refl c.in_ok-present.ensures.kept))
 
-pub elem_in-returns-in_err-set_presence-clause-kept : goal.elem_in-returns-in_err-set_presence-clause-kept
-elem_in-returns-in_err-set_presence-clause-kept g t c = then _ _ _ _ _ _ (rule_opened _ _ _ _ R.ClearElem refl c.in_ok-open.ensures.ok) (then _ _ _ _ _ _ c.in_ok-below.ensures.kept (then _ _ _ _ _ _ (rows_added _ _ _ _ refl c.in_ok-present.ensures.kept) (nothing _ _ _ _ c.in_err-set_presence.ensures.err refl)))
+pub elem_in-returns-in_err-put_presence-clause-kept : goal.elem_in-returns-in_err-put_presence-clause-kept
+elem_in-returns-in_err-put_presence-clause-kept g t c = then _ _ _ _ _ _ (rule_opened _ _ _ _ R.ClearElem refl c.in_ok-open.ensures.ok) (then _ _ _ _ _ _ c.in_ok-below.ensures.kept (then _ _ _ _ _ _ (rows_added _ _ _ _ refl c.in_ok-present.ensures.kept) (only_tree _ _ _ _ c.in_err-put_presence.ensures.kept refl)))
 
 pub clear_map-returns-in_err-copy-clause-kept : goal.clear_map-returns-in_err-copy-clause-kept
 clear_map-returns-in_err-copy-clause-kept g t c = nothing _ _ _ _ refl refl
@@ -270,9 +258,6 @@ list_in-returns-in_err-push-clause-kept g t c = then _ _ _ _ _ _ c.loop-key.inva
 pub list_in-returns-clause-kept : goal.list_in-returns-clause-kept
 list_in-returns-clause-kept g t c = then _ _ _ _ _ _ c.loop-key.invariant.kept (then _ _ _ _ _ _ (rule_added _ _ _ _ R.ClearList3 refl c.in_ok-push.ensures.ok) (depth_changed _ _ _ _ _ refl c.close.ensures))
 
-pub map_in-returns-in_err-key-clause-kept : goal.map_in-returns-in_err-key-clause-kept
-map_in-returns-in_err-key-clause-kept g t c = then _ _ _ _ _ _ c.loop-key.invariant.kept (rule_opened _ _ _ _ R.ClearMap2 refl c.in_ok-open.ensures.ok)
-
 pub map_in-returns-in_err-open-clause-kept : goal.map_in-returns-in_err-open-clause-kept
 map_in-returns-in_err-open-clause-kept g t c = then _ _ _ _ _ _ c.loop-key.invariant.kept (nothing _ _ _ _ refl c.in_err-open.ensures.err)
 
@@ -294,14 +279,14 @@ elem_in-any_in-requires g t c = λ κs h. (omega arith, (h, (c.requires.there, (
 pub any_in-clear_map-requires : goal.any_in-clear_map-requires
 any_in-clear_map-requires g t c = λ κs h. (omega arith, (h, (c.requires.there, (c.requires.named, c.requires.chained))))
 
-pub clear_map-below-requires-clause-there : goal.clear_map-below-requires-clause-there
-clear_map-below-requires-clause-there g t c = rw c.as_slice.ensures.value c.requires.there
+pub clear_map-map_by-requires-clause-there : goal.clear_map-map_by-requires-clause-there
+clear_map-map_by-requires-clause-there g t c = rw c.as_slice.ensures.value c.requires.there
 
 pub clear_map-close-requires : goal.clear_map-close-requires
 clear_map-close-requires g t c = omega (arith, c.depth-depth.ensures, ap (λ (r : Rows). r.depth) c.in_ok-open.ensures.ok, c.in_ok-ids.ensures.ok.derives.depth)
 
-pub clear_list-below-requires-clause-there : goal.clear_list-below-requires-clause-there
-clear_list-below-requires-clause-there g t c = rw c.as_slice.ensures.value c.requires.there
+pub clear_list-list_by-requires-clause-there : goal.clear_list-list_by-requires-clause-there
+clear_list-list_by-requires-clause-there g t c = rw c.as_slice.ensures.value c.requires.there
 
 pub clear_list-close-requires : goal.clear_list-close-requires
 clear_list-close-requires g t c = omega (arith, c.depth-depth.ensures, ap (λ (r : Rows). r.depth) c.in_ok-open.ensures.ok, c.in_ok-ids.ensures.ok.derives.depth)
@@ -316,7 +301,7 @@ pub list_in-close-requires : goal.list_in-close-requires
 list_in-close-requires g t c = omega (arith, c.depth-depth.ensures, ap (λ (r : Rows). r.depth) c.in_ok-push.ensures.ok, c.loop-key.invariant.along.turn.deeper)
 
 pub map_in-close-requires : goal.map_in-close-requires
-map_in-close-requires g t c = omega (arith, c.depth-depth.ensures, ap (λ (r : Rows). r.depth) c.in_ok-push.ensures.ok, c.loop-key.invariant.through.turn.deeper)
+map_in-close-requires g t c = omega (arith, c.depth-depth.ensures, ap (λ (r : Rows). r.depth) c.in_ok-push.ensures.ok, c.loop-key.invariant.through.through.turn.deeper)
 
 pub list_in-loop-key-smaller-after-next : goal.list_in-loop-key-smaller-after-next
 list_in-loop-key-smaller-after-next g t c =

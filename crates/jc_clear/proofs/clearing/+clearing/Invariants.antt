@@ -1,11 +1,12 @@
-use Rattle.std.proofs.Common.{◌≡◌, ◌+◌, ◌*◌, length}
+use Rattle.std.proofs.Common.{◌≡◌, ◌+◌, ◌*◌, length, drop}
+use Rattle.jc_rules.specs.Entries.{keys_of}
 use Rattle.jc_rules.specs.Context.{links}
 use Rattle.jc_tree.specs.Tree.{NamesStay, here}
 use Rattle.jc_tree.specs.Nested.{nested}
 use Rattle.jc_tree.specs.CanGoBack.{TreeCanGoBack}
 use Rattle.jc_tree.proofs.ChainedLeadsLemmas.{steps}
 use Rattle.jc_clear.proofs.ClearListLemmas.{Along}
-use Rattle.jc_clear.proofs.ClearMapLemmas.{Through, left_after}
+use Rattle.jc_clear.proofs.ClearMapLemmas.{ThroughKeys}
 use Rattle.jc_clear.proofs.clearing.+clearing.Given as goal
 
 abbrev pub decreases-elem_in : goal.decreases-elem_in
@@ -28,14 +29,11 @@ decreases-list_in g l = 4 * nested (here l.at.now.items (g.S.TreeStore.tree l.st
 
 abbrev pub invariant-map_in-loop-key : goal.invariant-map_in-loop-key
 invariant-map_in-loop-key g l = record {
-  through : Through l.deps l.initial.at.items (g.S.TreeStore.tree l.initial.store) l.initial.trace (g.S.TreeStore.tree l.store) l.last l.ids.items l.trace;
+  through : ThroughKeys l.deps l.initial.at.items (g.S.TreeStore.tree l.initial.store) l.initial.trace (g.S.TreeStore.tree l.store) (keys_of (drop l.key-index l.key-items)) l.ids.items l.trace;
   path : l.at.items ≡ l.initial.at.items;
   names_stay : NamesStay (g.S.TreeStore.names l.initial.store) (g.S.TreeStore.names l.store);
   kept : TreeCanGoBack (g.S.TreeStore.tree l.initial.store) (g.S.TreeStore.tree l.store) l.initial.trace l.trace;
 }
-
-abbrev pub decreases-map_in-loop-key : goal.decreases-map_in-loop-key
-decreases-map_in-loop-key g l = left_after l.last (here l.initial.at.items (g.S.TreeStore.tree l.initial.store))
 
 abbrev pub invariant-list_in-loop-key : goal.invariant-list_in-loop-key
 invariant-list_in-loop-key g l = record {

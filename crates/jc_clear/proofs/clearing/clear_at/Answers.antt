@@ -1,3 +1,6 @@
+use Rattle.std.proofs.Common.{ℕ, ◌+◌, take, sym, ap, ◌∙◌}
+use Rattle.jc_rules.specs.History.{timeline}
+use Rattle.jc_rules.proofs.HistoryLemmas.{undone}
 use Rattle.jc_tree.proofs.CanGoBackLemmas.{gone_back}
 use Rattle.jc_clear.proofs.ClearsBelowLemmas.{chained_here, still_chained}
 use Rattle.jc_clear.proofs.clearing.clear_at.Goals as goal
@@ -12,4 +15,7 @@ returns-in-Ok-clause-chained g c =
 
 pub returns-in-Err-clause-kept : goal.returns-in-Err-clause-kept
 returns-in-Err-clause-kept g c =
-    gone_back _ _ _ _ _ _ _ _ _ c.in-Err.ensures.kept c.mark-start.ensures c.undo_to.ensures c.mark-first.ensures.rows c.mark-first.ensures.depth c.cut.ensures
+    gone_back _ _ _ _ _ _ _ _ _ c.in-Err.ensures.kept c.mark-start.ensures c.undo_to.ensures.content c.mark-first.ensures.rows c.mark-first.ensures.depth c.cut.ensures
+
+pub returns-in-Err-clause-names_stay : goal.returns-in-Err-clause-names_stay
+returns-in-Err-clause-names_stay g c = λ p q h. c.undo_to.ensures.names_stay c.args.store.now (sym (undone _ _ _ c.in-Err.ensures.kept.store (c.undo_to.ensures.content ∙ ap (λ (x : ℕ). take (x + 1) (timeline (g.S.TreeStore.tree c.tagged_in.new.store))) c.mark-start.ensures))) p q h (c.in-Err.ensures.names_stay p q h)

@@ -11,7 +11,7 @@ returns-in_ok-push-in-Some-clause-ok g c =
 pub returns-in_ok-push-in-Some-clause-rises : goal.returns-in_ok-push-in-Some-clause-rises
 returns-in_ok-push-in-Some-clause-rises g c =
     let e : c.in_ok-ids-in-Some.ids.items ≡ c.in-Some.ids.now = search rules in
-    presence_rises c.args.at.now c.args.key.now c.in-Some.ids.now _ (g.S.TreeStore.tree c.args.store.now).now (g.met.S.TreeStore.kept c.args.store.now) c.requires (sym c.in-Some.ensures) e
+    presence_rises c.args.at.now c.args.key.now c.in-Some.ids.now _ (g.S.TreeStore.tree c.args.store.now).now (g.met.S.TreeStore.kept c.args.store.now) c.requires.there (sym c.in-Some.ensures) e
 
 pub returns-in_ok-push-in-None-clause-ok : goal.returns-in_ok-push-in-None-clause-ok
 returns-in_ok-push-in-None-clause-ok g c =

@@ -46,7 +46,7 @@ invariant_of-self-in-Bound g c =
     let done : c.saturating_sub-ended.result ≡ i.done - 1 = search rules in
     let vars : vars_of c.unbind_var.new.vars.items ≡ unbound c.in-Bound.place (was_bound c.in-Bound.before) (vars_of i.vars.items) = c.unbind_var.ensures in
     let restored : undone_once c.in-Some.field-0.change h ≡ h0 = ap (λ (x : Change). undone_once x h) is ∙ (λ j. held_of (sym done j) i.acted (sym vars j) i.ops i.queue.items i.sent i.recv) in
-    let s = unstep c.self.invariant (g.S.TreeStore.tree c.undo_to.new.self) c.pop.new.self.items c.in-Some.field-0 h0 c.in-Some.ensures.items c.undo_to.ensures restored in
+    let s = unstep c.self.invariant (g.S.TreeStore.tree c.undo_to.new.self) c.pop.new.self.items c.in-Some.field-0 h0 c.in-Some.ensures.items c.undo_to.ensures.content restored in
     s.kept
 
 pub returns-in-Bound-clause-undone : goal.returns-in-Bound-clause-undone
@@ -58,7 +58,7 @@ returns-in-Bound-clause-undone g c = λ yes.
     let done : c.saturating_sub-ended.result ≡ i.done - 1 = search rules in
     let vars : vars_of c.unbind_var.new.vars.items ≡ unbound c.in-Bound.place (was_bound c.in-Bound.before) (vars_of i.vars.items) = c.unbind_var.ensures in
     let restored : undone_once c.in-Some.field-0.change h ≡ h0 = ap (λ (x : Change). undone_once x h) is ∙ (λ j. held_of (sym done j) i.acted (sym vars j) i.ops i.queue.items i.sent i.recv) in
-    let s = unstep c.self.invariant (g.S.TreeStore.tree c.undo_to.new.self) c.pop.new.self.items c.in-Some.field-0 h0 c.in-Some.ensures.items c.undo_to.ensures restored in
+    let s = unstep c.self.invariant (g.S.TreeStore.tree c.undo_to.new.self) c.pop.new.self.items c.in-Some.field-0 h0 c.in-Some.ensures.items c.undo_to.ensures.content restored in
     s.history ∙ ap (λ (p : ReplicaHistory). p.history.earlier) c.self.view_is
 
 pub invariant_of-self-in-Made : goal.invariant_of-self-in-Made
@@ -71,7 +71,7 @@ invariant_of-self-in-Made g c =
     let ops : c.withdraw.new.self ≡ truncated c.in-Made.id.replica c.in-Made.before i.ops = c.withdraw.ensures.exact in
     let queue : c.drop_last.new.queue.items ≡ take (length i.queue.items - 1) i.queue.items = c.drop_last.ensures in
     let restored : undone_once c.in-Some.field-0.change h ≡ h0 = ap (λ (x : Change). undone_once x h) is ∙ (λ j. held_of (sym done j) i.acted (vars_of i.vars.items) (sym ops j) (sym queue j) i.sent i.recv) in
-    let s = unstep c.self.invariant (g.S.TreeStore.tree c.undo_to.new.self) c.pop.new.self.items c.in-Some.field-0 h0 c.in-Some.ensures.items c.undo_to.ensures restored in
+    let s = unstep c.self.invariant (g.S.TreeStore.tree c.undo_to.new.self) c.pop.new.self.items c.in-Some.field-0 h0 c.in-Some.ensures.items c.undo_to.ensures.content restored in
     s.kept
 
 pub returns-in-Made-clause-undone : goal.returns-in-Made-clause-undone
@@ -84,7 +84,7 @@ returns-in-Made-clause-undone g c = λ yes.
     let ops : c.withdraw.new.self ≡ truncated c.in-Made.id.replica c.in-Made.before i.ops = c.withdraw.ensures.exact in
     let queue : c.drop_last.new.queue.items ≡ take (length i.queue.items - 1) i.queue.items = c.drop_last.ensures in
     let restored : undone_once c.in-Some.field-0.change h ≡ h0 = ap (λ (x : Change). undone_once x h) is ∙ (λ j. held_of (sym done j) i.acted (vars_of i.vars.items) (sym ops j) (sym queue j) i.sent i.recv) in
-    let s = unstep c.self.invariant (g.S.TreeStore.tree c.undo_to.new.self) c.pop.new.self.items c.in-Some.field-0 h0 c.in-Some.ensures.items c.undo_to.ensures restored in
+    let s = unstep c.self.invariant (g.S.TreeStore.tree c.undo_to.new.self) c.pop.new.self.items c.in-Some.field-0 h0 c.in-Some.ensures.items c.undo_to.ensures.content restored in
     s.history ∙ ap (λ (p : ReplicaHistory). p.history.earlier) c.self.view_is
 
 pub invariant_of-self-in-Sent : goal.invariant_of-self-in-Sent
@@ -94,7 +94,7 @@ invariant_of-self-in-Sent g c =
     let h0 : Held = held_of i.done c.in-Sent.acted (vars_of i.vars.items) i.ops i.queue.items c.in-Sent.sent i.recv in
     let is : c.in-Some.field-0.change ≡ C.Sent c.in-Sent.sent c.in-Sent.acted = search rules in
     let restored : undone_once c.in-Some.field-0.change h ≡ h0 = ap (λ (x : Change). undone_once x h) is in
-    let s = unstep c.self.invariant (g.S.TreeStore.tree c.undo_to.new.self) c.pop.new.self.items c.in-Some.field-0 h0 c.in-Some.ensures.items c.undo_to.ensures restored in
+    let s = unstep c.self.invariant (g.S.TreeStore.tree c.undo_to.new.self) c.pop.new.self.items c.in-Some.field-0 h0 c.in-Some.ensures.items c.undo_to.ensures.content restored in
     s.kept
 
 pub returns-in-Sent-clause-undone : goal.returns-in-Sent-clause-undone
@@ -104,7 +104,7 @@ returns-in-Sent-clause-undone g c = λ yes.
     let h0 : Held = held_of i.done c.in-Sent.acted (vars_of i.vars.items) i.ops i.queue.items c.in-Sent.sent i.recv in
     let is : c.in-Some.field-0.change ≡ C.Sent c.in-Sent.sent c.in-Sent.acted = search rules in
     let restored : undone_once c.in-Some.field-0.change h ≡ h0 = ap (λ (x : Change). undone_once x h) is in
-    let s = unstep c.self.invariant (g.S.TreeStore.tree c.undo_to.new.self) c.pop.new.self.items c.in-Some.field-0 h0 c.in-Some.ensures.items c.undo_to.ensures restored in
+    let s = unstep c.self.invariant (g.S.TreeStore.tree c.undo_to.new.self) c.pop.new.self.items c.in-Some.field-0 h0 c.in-Some.ensures.items c.undo_to.ensures.content restored in
     s.history ∙ ap (λ (p : ReplicaHistory). p.history.earlier) c.self.view_is
 
 pub invariant_of-self-in-Received : goal.invariant_of-self-in-Received
@@ -115,7 +115,7 @@ invariant_of-self-in-Received g c =
     let is : c.in-Some.field-0.change ≡ C.Received c.in-Received.came c.in-Received.acted = search rules in
     let recv : c.withdraw-in-Received.new.self ≡ without_ops c.in-Received.came.items i.recv = search rules in
     let restored : undone_once c.in-Some.field-0.change h ≡ h0 = ap (λ (x : Change). undone_once x h) is ∙ (λ j. held_of i.done c.in-Received.acted (vars_of i.vars.items) i.ops i.queue.items i.sent (sym recv j)) in
-    let s = unstep c.self.invariant (g.S.TreeStore.tree c.undo_to.new.self) c.pop.new.self.items c.in-Some.field-0 h0 c.in-Some.ensures.items c.undo_to.ensures restored in
+    let s = unstep c.self.invariant (g.S.TreeStore.tree c.undo_to.new.self) c.pop.new.self.items c.in-Some.field-0 h0 c.in-Some.ensures.items c.undo_to.ensures.content restored in
     s.kept
 
 pub returns-in-Received-clause-undone : goal.returns-in-Received-clause-undone
@@ -126,7 +126,7 @@ returns-in-Received-clause-undone g c = λ yes.
     let is : c.in-Some.field-0.change ≡ C.Received c.in-Received.came c.in-Received.acted = search rules in
     let recv : c.withdraw-in-Received.new.self ≡ without_ops c.in-Received.came.items i.recv = search rules in
     let restored : undone_once c.in-Some.field-0.change h ≡ h0 = ap (λ (x : Change). undone_once x h) is ∙ (λ j. held_of i.done c.in-Received.acted (vars_of i.vars.items) i.ops i.queue.items i.sent (sym recv j)) in
-    let s = unstep c.self.invariant (g.S.TreeStore.tree c.undo_to.new.self) c.pop.new.self.items c.in-Some.field-0 h0 c.in-Some.ensures.items c.undo_to.ensures restored in
+    let s = unstep c.self.invariant (g.S.TreeStore.tree c.undo_to.new.self) c.pop.new.self.items c.in-Some.field-0 h0 c.in-Some.ensures.items c.undo_to.ensures.content restored in
     s.history ∙ ap (λ (p : ReplicaHistory). p.history.earlier) c.self.view_is
 
 pub invariant_of-self-in-Applied : goal.invariant_of-self-in-Applied
@@ -137,7 +137,7 @@ invariant_of-self-in-Applied g c =
     let is : c.in-Some.field-0.change ≡ C.Applied c.in-Applied.id c.in-Applied.before c.in-Applied.acted = search rules in
     let ops : c.withdraw-in-Applied.new.self ≡ truncated c.in-Applied.id.replica c.in-Applied.before i.ops = c.withdraw-in-Applied.ensures.exact in
     let restored : undone_once c.in-Some.field-0.change h ≡ h0 = ap (λ (x : Change). undone_once x h) is ∙ (λ j. held_of i.done c.in-Applied.acted (vars_of i.vars.items) (sym ops j) i.queue.items i.sent i.recv) in
-    let s = unstep c.self.invariant (g.S.TreeStore.tree c.undo_to.new.self) c.pop.new.self.items c.in-Some.field-0 h0 c.in-Some.ensures.items c.undo_to.ensures restored in
+    let s = unstep c.self.invariant (g.S.TreeStore.tree c.undo_to.new.self) c.pop.new.self.items c.in-Some.field-0 h0 c.in-Some.ensures.items c.undo_to.ensures.content restored in
     s.kept
 
 pub returns-in-Applied-clause-undone : goal.returns-in-Applied-clause-undone
@@ -148,7 +148,7 @@ returns-in-Applied-clause-undone g c = λ yes.
     let is : c.in-Some.field-0.change ≡ C.Applied c.in-Applied.id c.in-Applied.before c.in-Applied.acted = search rules in
     let ops : c.withdraw-in-Applied.new.self ≡ truncated c.in-Applied.id.replica c.in-Applied.before i.ops = c.withdraw-in-Applied.ensures.exact in
     let restored : undone_once c.in-Some.field-0.change h ≡ h0 = ap (λ (x : Change). undone_once x h) is ∙ (λ j. held_of i.done c.in-Applied.acted (vars_of i.vars.items) (sym ops j) i.queue.items i.sent i.recv) in
-    let s = unstep c.self.invariant (g.S.TreeStore.tree c.undo_to.new.self) c.pop.new.self.items c.in-Some.field-0 h0 c.in-Some.ensures.items c.undo_to.ensures restored in
+    let s = unstep c.self.invariant (g.S.TreeStore.tree c.undo_to.new.self) c.pop.new.self.items c.in-Some.field-0 h0 c.in-Some.ensures.items c.undo_to.ensures.content restored in
     s.history ∙ ap (λ (p : ReplicaHistory). p.history.earlier) c.self.view_is
 
 pub invariant_of-self-in-Ended : goal.invariant_of-self-in-Ended
@@ -159,7 +159,7 @@ invariant_of-self-in-Ended g c =
     let is : c.in-Some.field-0.change ≡ C.Ended = search rules in
     let done : c.saturating_sub-ended.result ≡ i.done - 1 = search rules in
     let restored : undone_once c.in-Some.field-0.change h ≡ h0 = ap (λ (x : Change). undone_once x h) is ∙ (λ j. held_of (sym done j) true (vars_of i.vars.items) i.ops i.queue.items i.sent i.recv) in
-    let s = unstep c.self.invariant (g.S.TreeStore.tree c.undo_to.new.self) c.pop.new.self.items c.in-Some.field-0 h0 c.in-Some.ensures.items c.undo_to.ensures restored in
+    let s = unstep c.self.invariant (g.S.TreeStore.tree c.undo_to.new.self) c.pop.new.self.items c.in-Some.field-0 h0 c.in-Some.ensures.items c.undo_to.ensures.content restored in
     s.kept
 
 pub returns-in-Ended-clause-undone : goal.returns-in-Ended-clause-undone
@@ -170,5 +170,5 @@ returns-in-Ended-clause-undone g c = λ yes.
     let is : c.in-Some.field-0.change ≡ C.Ended = search rules in
     let done : c.saturating_sub-ended.result ≡ i.done - 1 = search rules in
     let restored : undone_once c.in-Some.field-0.change h ≡ h0 = ap (λ (x : Change). undone_once x h) is ∙ (λ j. held_of (sym done j) true (vars_of i.vars.items) i.ops i.queue.items i.sent i.recv) in
-    let s = unstep c.self.invariant (g.S.TreeStore.tree c.undo_to.new.self) c.pop.new.self.items c.in-Some.field-0 h0 c.in-Some.ensures.items c.undo_to.ensures restored in
+    let s = unstep c.self.invariant (g.S.TreeStore.tree c.undo_to.new.self) c.pop.new.self.items c.in-Some.field-0 h0 c.in-Some.ensures.items c.undo_to.ensures.content restored in
     s.history ∙ ap (λ (p : ReplicaHistory). p.history.earlier) c.self.view_is

@@ -1,7 +1,8 @@
 use Rattle.std.proofs.Common.{◌∷◌, ◌++◌, [], sym, ap, subst, ◌∙◌}
 use Rattle.jc_tree.specs.Arena.{content_of_arena}
-use Rattle.jc_tree.specs.ArenaUndo.{AreGood, arena_contents}
+use Rattle.jc_tree.specs.ArenaUndo.{AreGood, AreOldNumbers, arena_contents}
 use Rattle.jc_tree.proofs.ArenaHistoryLemmas.{contents_latest, good_latest}
+use Rattle.jc_tree.proofs.ArenaUndoNumbersLemmas.{numbers_before}
 use Rattle.jc_tree.proofs.arena.ArenaTree.undo.Goals as goal
 
 pub invariant_of-self : goal.invariant_of-self
@@ -17,3 +18,8 @@ pub returns-in-Some-clause-history : goal.returns-in-Some-clause-history
 returns-in-Some-clause-history c =
     let old = c.args.self.now in
     ap (λ l. arena_contents c.pop.new.self.items l ++ content_of_arena l ∷ []) c.take_back.ensures ∙ sym (contents_latest c.pop.new.self.items c.in-Some.undo old.nodes.items) ∙ ap (λ us. arena_contents us old.nodes.items) (sym c.in-Some.ensures.items)
+
+pub returns-in-Some-clause-numbers : goal.returns-in-Some-clause-numbers
+returns-in-Some-clause-numbers c =
+    let old = c.args.self.now in
+    subst (λ l. AreOldNumbers l old.nodes.items) (sym c.take_back.ensures) (numbers_before c.in-Some.undo old.nodes.items old.good)
