@@ -1,6 +1,6 @@
 -- About Compared: two contexts are the same, but for empty presence sets, where they are the same under each key.
 -- The proofs of `sameness` use it.
-use Rattle.std.proofs.Common.{◌≡◌, ◌≢◌, ◌<◌, List, [], ◌∷◌, ◌++◌, Bool, true, false, cond, Option, Some, None, is_some, filter, refl, sym, ◌∙◌, ap, subst}
+use Rattle.std.proofs.Common.{◌≡◌, ◌≢◌, ◌<◌, List, [], ◌∷◌, ◌++◌, Bool, true, false, cond, Option, Some, None, is_some, IsTrue, not, ◌↔◌, filter, refl, sym, ◌∙◌, ap, subst}
 use Rattle.std.specs.List.{AllByRecursion}
 use Rattle.std.specs.Ordering.{is_lt}
 use Rattle.std.specs.declared.cmp.Ordering.{Ordering}
@@ -338,3 +338,9 @@ pub below_same : (at : List Tagged) (t : Tagged) (a b : Tree) (x : StandsBelow a
 below_same at t a b x y e =
     let f : SameTree x.child y.child = subst (λ o. Both SameTree (Some x.child) o) y.found (subst (λ o. Both SameTree o (node_in (content t (here at b)))) x.found e) in
     ap drop x.is ∙ f ∙ ap drop (sym y.is)
+
+-- where the first has no context there
+pub none_first : (o u : Option Context) (b : Bool) → is_some o ≡ false → b ≡ not (is_some u) → IsTrue b ↔ Both SameTree o u
+none_first None None b e f = (λ t. tt, λ h. f)
+none_first None (Some d) b e f = (λ t. let g : false ≡ true = sym f ∙ t in cc, λ h. absurd h)
+none_first (Some c) u b e f = cc

@@ -76,6 +76,18 @@ impl<S: TreeStore> Placed<S> {
         Ok(true)
     }
 
+    /// The name of the place lasts.
+    fn put_ids_named(&mut self, key: &Key, ids: &[Id]) -> Result<bool, AllocError>
+        requires { AreRising ids.now }
+    {
+        let at = self.at.as_slice();
+        let Some(place) = name_of(&self.store, at) else {
+            return Ok(false);
+        };
+        self.store.set_presence_at(place, at, key, ids)?;
+        Ok(name_of(&self.store, at) == Some(place))
+    }
+
     fn add_id(&mut self, key: &Key, id: Id) -> Result<bool, AllocError> {
         let at = self.at.as_slice();
         if !is_place(&self.store, at) {
@@ -192,6 +204,7 @@ impl<S: TreeStore> Placed<S> {
         match step {
             Step::MakeNamed(tag, at) => self.make_named(keys.child(*tag, *at)),
             Step::AddIdNamed(at, id) => self.add_id_named(keys.key(*at), *id),
+            Step::PutIdsNamed(at, ids) => self.put_ids_named(keys.key(*at), ids_of(*ids)),
             Step::LinkNamed(at, next) => self.link_named(keys.key(*at), *next),
             Step::PutValuesNamed(at, values) => self.put_values_named(keys, *at, *values),
             Step::PutValueNamed(at, id, value) => self.put_value_named(keys.key(*at), *id, *value),
@@ -212,13 +225,15 @@ impl<S: TreeStore> Placed<S> {
         }
     }
 
-    /// Takes what was changed since the mark back.
+    /// Takes what was changed since the mark back. The name of the place lasts, if the place does.
     pub fn undo_to(&mut self, mark: Mark) -> bool {
         if self.store.mark().changes < mark.changes {
             return false;
         }
+        let name = name_of(&self.store, self.at.as_slice());
         self.store.undo_to(mark);
-        self.store.mark() == mark
+        let left = name_of(&self.store, self.at.as_slice());
+        self.store.mark() == mark && (left.is_none() || left == name)
     }
 
     fn down(&mut self, child: &Tagged) -> Result<bool, AllocError> {
@@ -360,16 +375,27 @@ impl<S: TreeStore> Placed<S> {
         }
     }
 
+    /// The same, by the name of the place.
+    fn after_named(&self, of: Kind, above: Option<&Key>) -> Option<&Key> {
+        let at = self.at.as_slice();
+        let place = name_of(&self.store, at)?;
+        match of {
+            Kind::Child => self.store.key_after_at(place, at, above),
+            Kind::Presence => self.store.presence_after_at(place, at, above),
+            Kind::Link => self.store.link_after_at(place, at, above),
+        }
+    }
+
     fn has_just(&self, keys: &Keys, of: Kind, want: &[At]) -> bool {
         let mut last = None;
         for at in want {
             let key = Some(keys.key(*at));
-            if self.after(of, last) != key {
+            if self.after(of, last) != key || self.after_named(of, last) != key {
                 return false;
             }
             last = key;
         }
-        self.after(of, last).is_none()
+        self.after(of, last).is_none() && self.after_named(of, last).is_none()
     }
 
     fn has_values(&self, keys: &Keys, key: At, values: Values) -> Result<bool, AllocError> {

@@ -17,7 +17,9 @@ pub enum Step<'a> {
     /// Makes a child, by its path and by the name of its place.
     Make(Tag, At),
     MakeNamed(Tag, At),
+    /// Sets the identifiers, by the path and by the name of the place.
     PutIds(At, Set),
+    PutIdsNamed(At, Set),
     /// Adds an identifier, by the path and by the name of the place.
     AddId(At, Id),
     AddIdNamed(At, Id),

@@ -87,7 +87,7 @@ const CHILD_KEYS: &[Step] = &[
 
 const PRESENCE_KEYS: &[Step] = &[
     Step::Keys(Kind::Presence, &[]),
-    Step::PutIds(At::A, Set::First),
+    Step::PutIdsNamed(At::A, Set::First),
     Step::PutIds(At::Doc, Set::Empty),
     Step::Keys(Kind::Presence, &[At::Doc, At::A]),
 ];

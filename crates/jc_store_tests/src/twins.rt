@@ -119,6 +119,7 @@ impl Twins {
             Step::Make(_, _)
             | Step::MakeNamed(_, _)
             | Step::PutIds(_, _)
+            | Step::PutIdsNamed(_, _)
             | Step::AddId(_, _)
             | Step::AddIdNamed(_, _)
             | Step::Link(_, _)

@@ -58,6 +58,7 @@ fn change_of(number: u64, at: At) -> Step<'static> {
 /// The same change, by the name of its place.
 fn named(step: Step<'static>) -> Step<'static> {
     match step {
+        Step::PutIds(at, ids) => Step::PutIdsNamed(at, ids),
         Step::AddId(at, id) => Step::AddIdNamed(at, id),
         Step::Link(at, next) => Step::LinkNamed(at, next),
         Step::PutValues(at, values) => Step::PutValuesNamed(at, values),

@@ -21,9 +21,12 @@ use crate::alive::is_alive;
 use crate::values::{write_pairs, write_value};
 use jc_replica::Replica;
 use jc_rules::{Id, Key, Next, Tagged, Text, Value};
-use jc_tree::TreeStore;
+use jc_tree::{Hint, Place, TreeStore};
 use json::Writer;
 use std::alloc::{AllocError, Global};
+
+/// For a key of which no hint is known.
+const ANYWHERE: Hint = Hint { number: 0 };
 
 /// How a place is shown: as its one alternative, or as a conflict of all its alternatives.
 #[derive(Clone, Copy)]
@@ -35,37 +38,52 @@ enum Form {
 }
 
 /// Whether the key's presence set has an identifier.
-fn is_present<S: TreeStore>(store: &S, at: &[Tagged], key: &Key) -> bool
-    requires { HasPlace at.now (S.tree store.now) }
+fn is_present<S: TreeStore>(store: &S, place: Place, at: &[Tagged], key: &Key) -> bool
+    requires there { HasPlace at.now (S.tree store.now) }
+    requires named { S.names store.now place at.now }
     ensures { result ≡ is_some (find key_cmp key.now (present (presences (here at.now (S.tree store.now))))) }
 {
-    match store.presence(at, key) {
+    match store.presence_by(place, at, key, ANYWHERE) {
         Some(ids) => !ids.is_empty(),
         None => false,
     }
 }
 
 /// The values at a key.
-fn values_at<'a, S: TreeStore>(store: &'a S, at: &[Tagged], key: &Key) -> &'a [(Id, Value)]
-    requires { HasPlace at.now (S.tree store.now) }
+fn values_at<'a, S: TreeStore>(
+    store: &'a S,
+    place: Place,
+    at: &[Tagged],
+    key: &Key,
+) -> &'a [(Id, Value)]
+    requires there { HasPlace at.now (S.tree store.now) }
+    requires named { S.names store.now place at.now }
     ensures { result.now ≡ or_no_value (find key_cmp key.now (registers (here at.now (S.tree store.now)))) }
 {
-    match store.register(at, key) {
+    match store.register_at(place, at, key) {
         Some(pairs) => pairs,
         None => &[],
     }
 }
 
 /// Whether the map or list under the tagged key is shown: it exists and is alive.
-fn is_shown<S: TreeStore>(replica: &Replica<S>, store: &S, at: &[Tagged], tagged: &Tagged) -> bool
-    requires { HasPlace at.now (S.tree store.now) }
+fn is_shown<S: TreeStore>(
+    replica: &Replica<S>,
+    store: &S,
+    place: Place,
+    at: &[Tagged],
+    tagged: &Tagged,
+) -> bool
+    requires there { HasPlace at.now (S.tree store.now) }
+    requires named { S.names store.now place at.now }
+    requires node { HasContext tagged.now }
     ensures { result ≡
         shows_at (goes_by replica.now.history.now) at.now tagged.now (here at.now (S.tree store.now)) }
 {
-    if !store.has(at, tagged) {
+    if store.below(place, at, tagged).is_none() {
         return false;
     }
-    match store.presence(at, tagged.key()) {
+    match store.presence_by(place, at, tagged.key(), ANYWHERE) {
         Some(ids) => is_alive(replica, ids, at, tagged),
         None => false,
     }
@@ -75,17 +93,19 @@ fn is_shown<S: TreeStore>(replica: &Replica<S>, store: &S, at: &[Tagged], tagged
 fn parts_at<S: TreeStore>(
     replica: &Replica<S>,
     store: &S,
+    place: Place,
     at: &[Tagged],
     key: &Key,
 ) -> Result<(bool, bool), AllocError>
-    requires { HasPlace at.now (S.tree store.now) }
+    requires there { HasPlace at.now (S.tree store.now) }
+    requires named { S.names store.now place at.now }
     ensures map { IfOk result (λ parts.
         parts.0 ≡ shows_at (goes_by replica.now.history.now) at.now (MapT key.now) (here at.now (S.tree store.now))) }
     ensures list { IfOk result (λ parts.
         parts.1 ≡ shows_at (goes_by replica.now.history.now) at.now (ListT key.now) (here at.now (S.tree store.now))) }
 {
-    let map = is_shown(replica, store, at, &Tagged::MapT(key.copy()?));
-    let list = is_shown(replica, store, at, &Tagged::ListT(key.copy()?));
+    let map = is_shown(replica, store, place, at, &Tagged::MapT(key.copy()?));
+    let list = is_shown(replica, store, place, at, &Tagged::ListT(key.copy()?));
     Ok((map, list))
 }
 
@@ -114,12 +134,13 @@ fn write_name(alloc: Global, name: &str, out: &mut Writer) -> Result<(), AllocEr
 }
 
 /// The element that follows a key of a list.
-fn element_after<S: TreeStore>(store: &S, at: &[Tagged], key: &Key) -> Option<Id>
-    requires { HasPlace at.now (S.tree store.now) }
+fn element_after<S: TreeStore>(store: &S, place: Place, at: &[Tagged], key: &Key) -> Option<Id>
+    requires there { HasPlace at.now (S.tree store.now) }
+    requires named { S.names store.now place at.now }
     ensures some { (i : AnyId) → result ≡ Some i → next_of key.now (here at.now (S.tree store.now)) ≡ Some (To i) }
     ensures none { result ≡ None → (i : AnyId) → next_of key.now (here at.now (S.tree store.now)) ≢ Some (To i) }
 {
-    match store.next(at, key) {
+    match store.step_by(place, at, key, ANYWHERE).next {
         Some(Next::Elem(id)) => Some(id),
         _ => None,
     }
@@ -164,11 +185,13 @@ fn write_child<S: TreeStore>(
     names: &[Text],
     replica: &Replica<S>,
     store: &S,
+    place: Place,
     at: &mut Vec<Tagged>,
     tagged: Tagged,
     out: &mut Writer,
 ) -> Result<(), AllocError>
     requires there { HasPlace at.old.items (S.tree store.now) }
+    requires named { S.names store.now place at.old.items }
     requires chained { IsChained (S.tree store.now).now }
     requires node { HasContext tagged }
     requires some { is_some (content tagged (here at.old.items (S.tree store.now))) ≡ true }
@@ -177,13 +200,16 @@ fn write_child<S: TreeStore>(
         (here at.old.items (S.tree store.now))))) }
     ensures place { OnOk result (at.new.items ≡ at.old.items) }
 {
+    let Some(child) = store.below(place, at.as_slice(), &tagged) else {
+        unreachable!();
+    };
     let list = is_list(&tagged);
     let depth = at.len();
     at.push(tagged)?;
     if list {
-        write_list(alloc, names, replica, store, at, out)?;
+        write_list(alloc, names, replica, store, child, at, out)?;
     } else {
-        write_map(alloc, names, replica, store, at, out)?;
+        write_map(alloc, names, replica, store, child, at, out)?;
     }
     at.truncate(depth);
     Ok(())
@@ -196,6 +222,7 @@ fn write_part<S: TreeStore>(
     names: &[Text],
     replica: &Replica<S>,
     store: &S,
+    place: Place,
     at: &mut Vec<Tagged>,
     name: &str,
     shown: bool,
@@ -203,6 +230,7 @@ fn write_part<S: TreeStore>(
     out: &mut Writer,
 ) -> Result<(), AllocError>
     requires there { HasPlace at.old.items (S.tree store.now) }
+    requires named { S.names store.now place at.old.items }
     requires chained { IsChained (S.tree store.now).now }
     requires node { HasContext tagged }
     requires some { shown ≡ true → is_some (content tagged (here at.old.items (S.tree store.now))) ≡ true }
@@ -213,7 +241,7 @@ fn write_part<S: TreeStore>(
 {
     if shown {
         out.key(name)?;
-        write_child(alloc, names, replica, store, at, tagged, out)?;
+        write_child(alloc, names, replica, store, place, at, tagged, out)?;
     }
     Ok(())
 }
@@ -225,6 +253,7 @@ fn write_every<S: TreeStore>(
     names: &[Text],
     replica: &Replica<S>,
     store: &S,
+    place: Place,
     at: &mut Vec<Tagged>,
     key: &Key,
     map: bool,
@@ -232,6 +261,7 @@ fn write_every<S: TreeStore>(
     out: &mut Writer,
 ) -> Result<(), AllocError>
     requires there { HasPlace at.old.items (S.tree store.now) }
+    requires named { S.names store.now place at.old.items }
     requires chained { IsChained (S.tree store.now).now }
     requires map { map ≡ true → is_some (content (MapT key.now) (here at.old.items (S.tree store.now))) ≡ true }
     requires list { list ≡ true → is_some (content (ListT key.now) (here at.old.items (S.tree store.now))) ≡ true }
@@ -252,6 +282,7 @@ fn write_every<S: TreeStore>(
         names,
         replica,
         store,
+        place,
         at,
         "list",
         list,
@@ -263,13 +294,19 @@ fn write_every<S: TreeStore>(
         names,
         replica,
         store,
+        place,
         at,
         "map",
         map,
         Tagged::MapT(key.copy()?),
         out,
     )?;
-    write_values(alloc, names, values_at(store, at.as_slice(), key), out)?;
+    write_values(
+        alloc,
+        names,
+        values_at(store, place, at.as_slice(), key),
+        out,
+    )?;
     out.end_object()?;
     out.end_object()
 }
@@ -281,19 +318,21 @@ fn write_place<S: TreeStore>(
     names: &[Text],
     replica: &Replica<S>,
     store: &S,
+    place: Place,
     at: &mut Vec<Tagged>,
     key: &Key,
     out: &mut Writer,
 ) -> Result<(), AllocError>
     requires there { HasPlace at.old.items (S.tree store.now) }
+    requires named { S.names store.now place at.old.items }
     requires chained { IsChained (S.tree store.now).now }
     ensures written { OnOk result (Gains out.old out.new
         (json_tokens (parts_shown_at names.now (goes_by replica.now.history.now) at.old.items
         (here at.old.items (S.tree store.now)) key.now))) }
     ensures place { OnOk result (at.new.items ≡ at.old.items) }
 {
-    let (map, list) = parts_at(replica, store, at.as_slice(), key)?;
-    let values = values_at(store, at.as_slice(), key);
+    let (map, list) = parts_at(replica, store, place, at.as_slice(), key)?;
+    let values = values_at(store, place, at.as_slice(), key);
     match choose_form(values, map, list) {
         Form::Value => write_first(values, out),
         Form::Map => write_child(
@@ -301,6 +340,7 @@ fn write_place<S: TreeStore>(
             names,
             replica,
             store,
+            place,
             at,
             Tagged::MapT(key.copy()?),
             out,
@@ -310,11 +350,12 @@ fn write_place<S: TreeStore>(
             names,
             replica,
             store,
+            place,
             at,
             Tagged::ListT(key.copy()?),
             out,
         ),
-        Form::Every => write_every(alloc, names, replica, store, at, key, map, list, out),
+        Form::Every => write_every(alloc, names, replica, store, place, at, key, map, list, out),
     }
 }
 
@@ -325,11 +366,13 @@ fn write_member<S: TreeStore>(
     names: &[Text],
     replica: &Replica<S>,
     store: &S,
+    place: Place,
     at: &mut Vec<Tagged>,
     key: &Key,
     out: &mut Writer,
 ) -> Result<(), AllocError>
     requires there { HasPlace at.old.items (S.tree store.now) }
+    requires named { S.names store.now place at.old.items }
     requires chained { IsChained (S.tree store.now).now }
     ensures written { OnOk result (Gains out.old out.new
         (member_shown (parts_shown_at names.now (goes_by replica.now.history.now) at.old.items
@@ -338,9 +381,9 @@ fn write_member<S: TreeStore>(
     ensures place { OnOk result (at.new.items ≡ at.old.items) }
 {
     if let Key::Name(name) = key {
-        if is_present(store, at.as_slice(), key) {
+        if is_present(store, place, at.as_slice(), key) {
             write_name(alloc, name.as_str(), out)?;
-            write_place(alloc, names, replica, store, at, key, out)?;
+            write_place(alloc, names, replica, store, place, at, key, out)?;
         }
     }
     Ok(())
@@ -353,11 +396,13 @@ fn write_item<S: TreeStore>(
     names: &[Text],
     replica: &Replica<S>,
     store: &S,
+    place: Place,
     at: &mut Vec<Tagged>,
     key: &Key,
     out: &mut Writer,
 ) -> Result<(), AllocError>
     requires there { HasPlace at.old.items (S.tree store.now) }
+    requires named { S.names store.now place at.old.items }
     requires chained { IsChained (S.tree store.now).now }
     ensures written { OnOk result (Gains out.old out.new
         (item_of (parts_shown_at names.now (goes_by replica.now.history.now) at.old.items
@@ -365,8 +410,8 @@ fn write_item<S: TreeStore>(
         (here at.old.items (S.tree store.now)))) }
     ensures place { OnOk result (at.new.items ≡ at.old.items) }
 {
-    if is_present(store, at.as_slice(), key) {
-        write_place(alloc, names, replica, store, at, key, out)?;
+    if is_present(store, place, at.as_slice(), key) {
+        write_place(alloc, names, replica, store, place, at, key, out)?;
     }
     Ok(())
 }
@@ -378,10 +423,12 @@ fn write_map<S: TreeStore>(
     names: &[Text],
     replica: &Replica<S>,
     store: &S,
+    place: Place,
     at: &mut Vec<Tagged>,
     out: &mut Writer,
 ) -> Result<(), AllocError>
     requires there { HasPlace at.old.items (S.tree store.now) }
+    requires named { S.names store.now place at.old.items }
     requires chained { IsChained (S.tree store.now).now }
     ensures written { OnOk result (Gains out.old out.new
         (json_tokens (map_json names.now (goes_by replica.now.history.now) at.old.items
@@ -390,8 +437,8 @@ fn write_map<S: TreeStore>(
 {
     out.begin_object()?;
     let mut last = None;
-    while let Some(key) = store.presence_after(at.as_slice(), last) {
-        write_member(alloc, names, replica, store, at, key, out)?;
+    while let Some(key) = store.presence_after_at(place, at.as_slice(), last) {
+        write_member(alloc, names, replica, store, place, at, key, out)?;
         last = Some(key);
     }
     out.end_object()
@@ -404,10 +451,12 @@ fn write_list<S: TreeStore>(
     names: &[Text],
     replica: &Replica<S>,
     store: &S,
+    place: Place,
     at: &mut Vec<Tagged>,
     out: &mut Writer,
 ) -> Result<(), AllocError>
     requires there { HasPlace at.old.items (S.tree store.now) }
+    requires named { S.names store.now place at.old.items }
     requires chained { IsChained (S.tree store.now).now }
     ensures written { OnOk result (Gains out.old out.new
         (json_tokens (list_json names.now (goes_by replica.now.history.now) at.old.items
@@ -416,9 +465,9 @@ fn write_list<S: TreeStore>(
 {
     out.begin_array()?;
     let mut key = Key::Head;
-    while let Some(id) = element_after(store, at.as_slice(), &key) {
+    while let Some(id) = element_after(store, place, at.as_slice(), &key) {
         key = Key::Elem(id);
-        write_item(alloc, names, replica, store, at, &key, out)?;
+        write_item(alloc, names, replica, store, place, at, &key, out)?;
     }
     out.end_array()
 }
@@ -437,9 +486,10 @@ fn write_document<S: TreeStore>(
         (parts_shown_at names.now (goes_by replica.now.history.now) [] (S.tree store.now).now Doc))) }
 {
     let mut at = Vec::new(alloc);
-    if is_present(store, at.as_slice(), &Key::Doc) {
+    let root = store.root();
+    if is_present(store, root, at.as_slice(), &Key::Doc) {
         out.key("doc")?;
-        write_place(alloc, names, replica, store, &mut at, &Key::Doc, out)?;
+        write_place(alloc, names, replica, store, root, &mut at, &Key::Doc, out)?;
     }
     Ok(())
 }

@@ -3,12 +3,14 @@ use Rattle.std.proofs.lemmas.Result.{IfOk-weaker}
 use Rattle.jc_rules.specs.declared.key.Key.{Key}
 use Rattle.jc_rules.specs.declared.key.Tagged.{Tagged}
 use Rattle.jc_rules.specs.Context.{content, keys}
+use Rattle.jc_rules.specs.ContextsAt.{node_in}
 use Rattle.jc_rules.specs.WellFormed.{IsWellFormedContext}
 use Rattle.jc_tree.specs.Tree.{here, least_after}
 use Rattle.jc_tree.specs.Nested.{nested}
+use Rattle.jc_tree.proofs.PlacesLemmas.{some_content}
 use Rattle.jc_tree.proofs.WalksLemmas.{IsNext, next_is}
 use Rattle.jc_meaning.specs.Compared.{SameTree, IsSameKey, ArePresencesSame, AreLinksSame}
-use Rattle.jc_meaning.proofs.ComparedContextsLemmas.{StandsBelow, stands_below, same_below, below_same, kept_here, next_same, both_go_on, both_end, together, presences_same, keys_same}
+use Rattle.jc_meaning.proofs.ComparedContextsLemmas.{StandsBelow, stands_below, same_below, below_same, none_first, kept_here, next_same, both_go_on, both_end, together, presences_same, keys_same}
 use Rattle.jc_meaning.proofs.sameness.+walk.Goals as goal
 
 none_copied : (o : Option (Bor Key)) → is_some o ≡ false → option_copied o ≡ None
@@ -19,9 +21,16 @@ copied_none : (o : Option (Bor Key)) → option_copied o ≡ None → is_some o 
 copied_none None e = refl
 copied_none (Some k) e = cc
 
+flip : (a b : Bool) → a ≡ not b → b ≡ not a
+flip a true e = rw e refl
+flip a false e = rw e refl
+
 is_not : (b : Bool) → false ≡ not b → b ≡ true
 is_not true e = refl
 is_not false e = cc
+
+pub same_child-below-requires-clause-there : goal.same_child-below-requires-clause-there
+same_child-below-requires-clause-there g t c = rw c.as_slice.ensures.value c.requires.left
 
 pub same_child-same_place-requires : goal.same_child-same_place-requires
 same_child-same_place-requires g t c κs within =
@@ -29,13 +38,20 @@ same_child-same_place-requires g t c κs within =
     let right = g.T.TreeStore.tree c.args.right.now in
     let at = c.args.at.now.items in
     let tagged = c.args.tagged in
-    let some_left : is_some (content tagged (here at left)) ≡ true = search rules in
-    let some_right : is_some (content tagged (here at right)) ≡ true = search rules in
+    let some_left : is_some (content tagged (here at left)) ≡ true = sym (rw c.as_slice.ensures.value at c.in-Some.ensures.some ∙ some_content tagged (here at left) c.requires.node) in
+    let some_right : is_some (content tagged (here at right)) ≡ true = sym (rw c.as_slice-2.ensures.value at c.in-Some-below.ensures.some ∙ some_content tagged (here at right) c.requires.node) in
     let x : StandsBelow at tagged left = stands_below at tagged left c.requires.left c.requires.node some_left in
     let y : StandsBelow at tagged right = stands_below at tagged right c.requires.right c.requires.node some_right in
     let pushed : c.push.new.self.items ≡ at ++ tagged ∷ [] = search rules in
     let small : nested (here c.push.new.self.items left) < nested (here at left) = rw pushed x.smaller in
-    (omega (arith, small, c.decreases), (within.0, (within.1, (rw pushed x.there, rw pushed y.there))))
+    (omega (arith, small, c.decreases), (within.0, (within.1, (rw pushed x.there, (rw pushed y.there, (rw pushed (rw c.as_slice.ensures.value at c.in-Some.ensures.named), rw pushed (rw c.as_slice-2.ensures.value at c.in-Some-below.ensures.named)))))))
+
+pub same_child-returns-in_default-clause-same : goal.same_child-returns-in_default-clause-same
+same_child-returns-in_default-clause-same g t c =
+    let left = g.S.TreeStore.tree c.args.left.now in
+    let right = g.T.TreeStore.tree c.args.right.now in
+    let at = c.args.at.now.items in
+    none_first (node_in (content c.args.tagged (here at left))) (node_in (content c.args.tagged (here at right))) c.is_none.result (sym (rw c.as_slice.ensures.value at c.in_default.ensures.some)) (flip (is_some c.below-in_default.result) c.is_none.result c.is_none.ensures ∙ ap not (rw c.as_slice-in_default.ensures.value at c.below-in_default.ensures.some))
 
 pub same_child-returns-clause-same : goal.same_child-returns-clause-same
 same_child-returns-clause-same g t c =
@@ -43,8 +59,8 @@ same_child-returns-clause-same g t c =
     let right = g.T.TreeStore.tree c.args.right.now in
     let at = c.args.at.now.items in
     let tagged = c.args.tagged in
-    let some_left : is_some (content tagged (here at left)) ≡ true = search rules in
-    let some_right : is_some (content tagged (here at right)) ≡ true = search rules in
+    let some_left : is_some (content tagged (here at left)) ≡ true = sym (rw c.as_slice.ensures.value at c.in-Some.ensures.some ∙ some_content tagged (here at left) c.requires.node) in
+    let some_right : is_some (content tagged (here at right)) ≡ true = sym (rw c.as_slice-2.ensures.value at c.in-Some-below.ensures.some ∙ some_content tagged (here at right) c.requires.node) in
     let x : StandsBelow at tagged left = stands_below at tagged left c.requires.left c.requires.node some_left in
     let y : StandsBelow at tagged right = stands_below at tagged right c.requires.right c.requires.node some_right in
     let pushed : c.push.new.self.items ≡ at ++ tagged ∷ [] = search rules in
@@ -64,7 +80,7 @@ same_keys-returns-then-not-is_key-clause-same g t c =
     let el = c.as_slice.ensures.value ∙ c.loop-key.invariant.0 in
     let er = c.as_slice-in-Some.ensures.value ∙ c.loop-key.invariant.0 in
     let nl : least_after last (keys (here at left)) ≡ Some key = sym (c.in-Some.ensures ∙ ap (λ (s : List Tagged). least_after last (keys (here s left))) el) in
-    let nr : option_copied c.key_after-in-Some.result ≡ least_after last (keys (here at right)) = c.key_after-in-Some.ensures ∙ ap (λ (s : List Tagged). least_after last (keys (here s right))) er in
+    let nr : option_copied c.key_after_at-in-Some.result ≡ least_after last (keys (here at right)) = c.key_after_at-in-Some.ensures ∙ ap (λ (s : List Tagged). least_after last (keys (here s right))) er in
     (λ s. cc, λ all. sym c.if-not-is_key.true ∙ c.is_key.ensures.1 (nr ∙ sym (next_same (here at left) (here at right) all last) ∙ nl))
 
 pub same_keys-loop-key-smaller : goal.same_keys-loop-key-smaller
@@ -87,7 +103,7 @@ same_keys-loop-key-preserved g t c =
     let el = c.as_slice.ensures.value ∙ c.loop-key.invariant.0 in
     let er = c.as_slice-in-Some.ensures.value ∙ c.loop-key.invariant.0 in
     let nl : least_after last (keys (here at left)) ≡ Some key = sym (c.in-Some.ensures ∙ ap (λ (s : List Tagged). least_after last (keys (here s left))) el) in
-    let there : option_copied c.key_after-in-Some.result ≡ least_after last (keys (here at right)) = c.key_after-in-Some.ensures ∙ ap (λ (s : List Tagged). least_after last (keys (here s right))) er in
+    let there : option_copied c.key_after_at-in-Some.result ≡ least_after last (keys (here at right)) = c.key_after_at-in-Some.ensures ∙ ap (λ (s : List Tagged). least_after last (keys (here s right))) er in
     let nr : least_after last (keys (here at right)) ≡ Some key = sym there ∙ c.is_key.ensures.0 c.if-not-is_key.false in
     let same : IsSameKey (here at left) (here at right) key = subst (λ (s : List Tagged). IsSameKey (here s left) (here s right) key) c.loop-key.invariant.0 (c.in_ok-same_key.ensures.same.0 c.if-not-branch.false) in
     (c.in_ok-same_key.ensures.place ∙ c.loop-key.invariant.0, both_go_on (here at left) (here at right) last key nl nr same c.loop-key.invariant.1)
@@ -101,9 +117,9 @@ same_keys-returns-clause-same g t c =
     let el = c.as_slice.ensures.value ∙ c.loop-key.invariant.0 in
     let er = c.as_slice-2.ensures.value ∙ c.loop-key.invariant.0 in
     let nl : least_after last (keys (here at left)) ≡ None = sym (c.in_default.ensures ∙ ap (λ (s : List Tagged). least_after last (keys (here s left))) el) in
-    let nr : option_copied c.key_after-2.result ≡ least_after last (keys (here at right)) = c.key_after-2.ensures ∙ ap (λ (s : List Tagged). least_after last (keys (here s right))) er in (
-      λ s. both_end (here at left) (here at right) last nl (sym nr ∙ none_copied c.key_after-2.result (c.is_none.ensures ∙ ap not s)) c.loop-key.invariant.1,
-      λ all. is_not c.is_none.result (sym (copied_none c.key_after-2.result (nr ∙ sym (next_same (here at left) (here at right) all last) ∙ nl)) ∙ c.is_none.ensures),
+    let nr : option_copied c.key_after_at-2.result ≡ least_after last (keys (here at right)) = c.key_after_at-2.ensures ∙ ap (λ (s : List Tagged). least_after last (keys (here s right))) er in (
+      λ s. both_end (here at left) (here at right) last nl (sym nr ∙ none_copied c.key_after_at-2.result (c.is_none.ensures ∙ ap not s)) c.loop-key.invariant.1,
+      λ all. is_not c.is_none.result (sym (copied_none c.key_after_at-2.result (nr ∙ sym (next_same (here at left) (here at right) all last) ∙ nl)) ∙ c.is_none.ensures),
     )
 
 pub same_place-returns-then-not-same_presences-clause-same :

@@ -18,6 +18,7 @@ use Rattle.jc_rules.specs.Context.{presences, registers, next, Register}
 use Rattle.jc_rules.specs.WellFormed.{IsWellFormedContext}
 use Rattle.jc_tree.specs.Tree.{here, is_after, least_after}
 use Rattle.jc_tree.specs.Nested.{nested}
+use Rattle.jc_tree.proofs.PlacesLemmas.{some_content}
 use Rattle.jc_tree.proofs.WalksLemmas.{IsNext, next_is, none_is}
 use Rattle.jc_tree.proofs.ChainedBelowLemmas.{list_here}
 use Rattle.jc_cursor.proofs.ElementsLemmas.{nearer}
@@ -34,6 +35,15 @@ use Rattle.jc_view.proofs.PresentLemmas.{place_is}
 use Rattle.jc_view.proofs.document.+walk.Goals as goal
 use Rattle.jc_view.proofs.document.+walk.Goals.{write_child-then-list+in_ok-write_list, write_child-else-list+in_ok-write_map}
 
+pub write_child-below-requires-clause-there : goal.write_child-below-requires-clause-there
+write_child-below-requires-clause-there g t c = rw c.as_slice.ensures.value c.requires.there
+
+pub write_child-unreachable-requires : goal.write_child-unreachable-requires
+write_child-unreachable-requires g t c =
+    let e = rw c.as_slice.ensures.value at c.in_default.ensures.some in
+    let no : false ≡ true = e ∙ some_content c.args.tagged (here c.args.at.now.items (g.S.TreeStore.tree c.args.store.now)) c.requires.node ∙ c.requires.some in
+    cc
+
 pub write_child-write_list-requires : goal.write_child-write_list-requires
 write_child-write_list-requires g t c κs within =
     let tree = g.S.TreeStore.tree c.args.store.now in
@@ -42,7 +52,7 @@ write_child-write_list-requires g t c κs within =
     let x : StandsBelow at tagged tree = stands_below at tagged tree c.requires.there c.requires.node c.requires.some in
     let pushed : c.push.new.self.items ≡ at ++ tagged ∷ [] = search rules in
     let small : nested (here c.push.new.self.items tree) < nested (here at tree) = rw pushed x.smaller in
-    (omega (arith, small, c.decreases), (within, (rw pushed x.there, c.requires.chained)))
+    (omega (arith, small, c.decreases), (within, (rw pushed x.there, (rw pushed (rw c.as_slice.ensures.value at c.in-Some.ensures.named), c.requires.chained))))
 
 pub write_child-write_map-requires : goal.write_child-write_map-requires
 write_child-write_map-requires g t c κs within =
@@ -52,7 +62,7 @@ write_child-write_map-requires g t c κs within =
     let x : StandsBelow at tagged tree = stands_below at tagged tree c.requires.there c.requires.node c.requires.some in
     let pushed : c.push.new.self.items ≡ at ++ tagged ∷ [] = search rules in
     let small : nested (here c.push.new.self.items tree) < nested (here at tree) = rw pushed x.smaller in
-    (omega (arith, small, c.decreases), (within, (rw pushed x.there, c.requires.chained)))
+    (omega (arith, small, c.decreases), (within, (rw pushed x.there, (rw pushed (rw c.as_slice.ensures.value at c.in-Some.ensures.named), c.requires.chained))))
 
 pub write_child-returns-clause-written : goal.write_child-returns-clause-written
 write_child-returns-clause-written g t c =
