@@ -1,6 +1,6 @@
 //! The gates of the replicas' threads, by which they meet: starting a thread takes longer than a short script, so without
 //! them one replica would have made all its events before the next one begins. `record` makes them. No contract speaks of
-//! when a gate lets its thread go on, and none of the order of events hangs on it.
+//! when a gate lets its thread go on, and none of the order that comes about.
 
 ghost use Rattle.std.specs.Prelude.{◌≡◌, None, IfOk, vec_len};
 
