@@ -26,9 +26,9 @@ use Rattle.jc_network.specs.RunInvariant.{IsWell}
 use Rattle.jc_network.specs.Invariant.{IsFromStart}
 use Rattle.jc_network.proofs.MembersLemmas.{first_in, later_in}
 use Rattle.jc_network.proofs.RunInvariantStartLemmas.{start_well, after_well, held_made, sound}
-use Rattle.jc_runner.specs.declared.phase.Phase.{Phase}
-use Rattle.jc_runner.specs.declared.phase.Phase.TheVariants as P
-use Rattle.jc_runner.specs.Chosen.{is_ready, first_ready, apply_or_end, past_own, at_yield, is_yield, chosen_by, chosen_in, choice}
+use Rattle.jc_choice.specs.declared.phase.Phase.{Phase}
+use Rattle.jc_choice.specs.declared.phase.Phase.TheVariants as P
+use Rattle.jc_choice.specs.Chosen.{is_ready, first_ready, apply_or_end, past_own, at_yield, is_yield, chosen_by, chosen_in, choice}
 
 -- ---- sets in sets
 

@@ -1,9 +1,9 @@
--- The phase of a replica's thread is a function of the last event that the replica made.
+-- The phase of a replica is a function of the last event that it made.
 use Rattle.std.specs.Prelude.{◌+◌, List, [], ◌∷◌, Option, Some, None}
 use Rattle.jc_rules.specs.declared.operation.Event.{Event}
 use Rattle.jc_rules.specs.declared.operation.Event.TheVariants as E
-use Rattle.jc_runner.specs.declared.phase.Phase.{Phase}
-use Rattle.jc_runner.specs.declared.phase.Phase.TheVariants as P
+use Rattle.jc_choice.specs.declared.phase.Phase.{Phase}
+use Rattle.jc_choice.specs.declared.phase.Phase.TheVariants as P
 
 abbrev pub last_event_of : List Event → Option Event
 last_event_of [] = None

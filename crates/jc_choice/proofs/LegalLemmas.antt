@@ -28,9 +28,9 @@ use Rattle.jc_network.proofs.EventDidLemmas.{Did, bound, made, sent, received, t
 use Rattle.jc_network.proofs.RunInvariantStartLemmas.{start_well}
 use Rattle.jc_network.proofs.RunInvariantLemmas.{step_well}
 use Rattle.jc_network.proofs.OfferedLemmas.{left_bound}
-use Rattle.jc_runner.specs.Legal.{IsLegal}
-use Rattle.jc_runner.specs.Laws.{with_schedule}
-use Rattle.jc_runner.proofs.LegalGrowsLemmas.{legal_states}
+use Rattle.jc_choice.specs.Legal.{IsLegal}
+use Rattle.jc_choice.specs.Laws.{with_schedule}
+use Rattle.jc_choice.proofs.LegalGrowsLemmas.{legal_states}
 
 -- replicas and counters that the event may name in a scenario of n replicas
 abbrev IsFit : ℕ → Event → Type 0

@@ -8,9 +8,9 @@ use Rattle.jc_rules.specs.declared.operation.Event.TheVariants as E
 use Rattle.jc_rules.specs.Ids.{has_id}
 use Rattle.jc_rules.specs.State.{State}
 use Rattle.jc_rules.specs.Syntax.{Cmd, LetIn, SetTo, InsertAfter, DeleteAt, Yield}
-use Rattle.jc_runner.specs.declared.phase.Phase.{Phase}
-use Rattle.jc_runner.specs.declared.phase.Phase.TheVariants as P
-use Rattle.jc_runner.specs.Phases.{phase_after}
+use Rattle.jc_choice.specs.declared.phase.Phase.{Phase}
+use Rattle.jc_choice.specs.declared.phase.Phase.TheVariants as P
+use Rattle.jc_choice.specs.Phases.{phase_after}
 
 -- the operation isn't applied, and its dependencies are
 abbrev pub is_ready : List Id → Op → Bool

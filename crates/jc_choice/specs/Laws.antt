@@ -5,10 +5,10 @@ use Rattle.jc_rules.specs.declared.operation.Event.{Event}
 use Rattle.jc_rules.specs.State.{State}
 use Rattle.jc_rules.specs.Step.{Network, replica_of}
 use Rattle.jc_scenario.specs.WellFormed.{Scenario, IsWellFormedScenario}
-use Rattle.jc_runner.specs.declared.phase.Phase.{Phase}
-use Rattle.jc_runner.specs.Chosen.{choice}
-use Rattle.jc_runner.specs.Legal.{IsLegal}
-use Rattle.jc_runner.specs.Phases.{phase_after}
+use Rattle.jc_choice.specs.declared.phase.Phase.{Phase}
+use Rattle.jc_choice.specs.Chosen.{choice}
+use Rattle.jc_choice.specs.Legal.{IsLegal}
+use Rattle.jc_choice.specs.Phases.{phase_after}
 
 -- What replica p chooses is an event of its own. Its phase after it depends on this event alone.
 abbrev pub ChoicesAreOwn : Type 0

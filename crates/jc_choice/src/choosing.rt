@@ -1,7 +1,7 @@
-//! The rule by which a replica chooses its next event (docs/RULES.md). Its thread calls `choose` in each turn.
+//! The rule by which a replica chooses its next event (docs/RULES.md).
 ghost use Rattle.std.specs.Prelude.{◌≡◌};
 ghost use Rattle.jc_syntax.specs.Trees.{cmd_of};
-ghost use Rattle.jc_runner.specs.Chosen.{is_ready, first_ready, apply_or_end, at_yield, is_yield, chosen_by, choice};
+ghost use Rattle.jc_choice.specs.Chosen.{is_ready, first_ready, apply_or_end, at_yield, is_yield, chosen_by, choice};
 
 use crate::phase::Phase;
 use jc_network::Net;

@@ -1,5 +1,5 @@
 -- About specs/Chosen: what a replica chooses names replicas of the network.
-use Rattle.std.proofs.Common.{rules, arith, ◌≡◌, ℕ, ◌+◌, ◌<◌, List, [], ◌∷◌, ◌++◌, Option, Some, None, Bool, true, false, cond, nat_lt, Contains, refl, ◌∙◌, subst, length, slice_get}
+use Rattle.std.proofs.Common.{rules, ◌≡◌, ℕ, ◌+◌, ◌<◌, List, [], ◌∷◌, ◌++◌, Option, Some, None, Bool, true, false, cond, nat_lt, Contains, refl, subst, length, slice_get}
 use Rattle.std.proofs.lemmas.Option.{same_Some, slice_get_within}
 use Rattle.jc_rules.specs.declared.id.Id.{Id}
 use Rattle.jc_rules.specs.declared.operation.Op.{Op}
@@ -8,20 +8,11 @@ use Rattle.jc_rules.specs.declared.operation.Event.TheVariants as E
 use Rattle.jc_rules.specs.State.{State}
 use Rattle.jc_rules.specs.Syntax.{Cmd}
 use Rattle.jc_printer.specs.Canon.{AreNamed}
-use Rattle.jc_scenario.specs.WellFormed.{Scenario, IsWellFormedScenario}
-use Rattle.jc_network.specs.declared.fault.Stuck.{Stuck}
-use Rattle.jc_network.specs.Laws.{starts}
 use Rattle.jc_network.specs.RunInvariant.{IsWell}
 use Rattle.jc_network.proofs.MembersLemmas.{first_in, later_in}
-use Rattle.jc_network.proofs.RunInvariantStartLemmas.{start_well, after_well}
-use Rattle.jc_runner.specs.declared.phase.Phase.{Phase}
-use Rattle.jc_runner.specs.declared.phase.Phase.TheVariants as P
-use Rattle.jc_runner.specs.Chosen.{choice, chosen_in, chosen_by, at_yield, apply_or_end, first_ready, is_ready, is_yield, past_own, event_in}
-use Rattle.jc_runner.specs.Phases.{phase_after, last_event_of}
-use Rattle.jc_runner.specs.Legal.{own_events}
-use Rattle.jc_runner.specs.WorkerResult.{IsStuckAfter}
-use Rattle.jc_runner.proofs.LegalGrowsLemmas.{legal_states}
-use Rattle.jc_runner.proofs.WorkerResultLemmas.{as_many}
+use Rattle.jc_choice.specs.declared.phase.Phase.{Phase}
+use Rattle.jc_choice.specs.declared.phase.Phase.TheVariants as P
+use Rattle.jc_choice.specs.Chosen.{choice, chosen_in, chosen_by, at_yield, apply_or_end, first_ready, is_ready, is_yield, past_own, event_in}
 
 abbrev IsNamedId : ℕ → Option Id → Type 0
 IsNamedId n None = Unit {0}
@@ -78,15 +69,7 @@ chosen_named N p phase w low = go (slice_get N p) refl
     go None is = tt
     go (Some A) is = by_named (length N) p low A (known A is) phase A.left
 
-event_named : (n : ℕ) (o : Option (Event × Phase)) (e : Event) → IsNamedChoice n o → event_in o ≡ Some e → AreNamed e n
+-- an event that was chosen so
+pub event_named : (n : ℕ) (o : Option (Event × Phase)) (e : Event) → IsNamedChoice n o → event_in o ≡ Some e → AreNamed e n
 event_named n None e named is = cc
 event_named n (Some c) e named is = subst (λ x. AreNamed x n) (same_Some c.0 e is) named
-
--- a stuck event that a replica chose names replicas of the scenario
-pub stuck_named : (s : Scenario) (p : ℕ) (history : List Event) (stuck : Stuck) → IsWellFormedScenario s → p < length s.scripts → (t : IsStuckAfter s p history stuck) → AreNamed t.event (length s.names)
-stuck_named s p history stuck well low t =
-    let count : length t.network.states ≡ length s.scripts = as_many s history t.network t.legal in
-    let kept : IsWell t.network.states = after_well (starts s.scripts) (s.given ++ history) t.network.states (start_well s.scripts) (legal_states s history t.network t.legal) in
-    let phase = phase_after (last_event_of (own_events history p)) in
-    let named = chosen_named t.network.states p phase kept (omega (arith, low, count)) in
-    subst (AreNamed t.event) (count ∙ well.each) (event_named (length t.network.states) (choice t.network.states p phase) t.event named t.is_chosen)

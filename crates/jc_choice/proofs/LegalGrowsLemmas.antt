@@ -7,8 +7,8 @@ use Rattle.jc_network.specs.Given.{before_given}
 use Rattle.jc_network.specs.Laws.{starts}
 use Rattle.jc_network.proofs.AfterLemmas.{after_more}
 use Rattle.jc_scenario.specs.WellFormed.{Scenario}
-use Rattle.jc_runner.specs.Phases.{last_event_of}
-use Rattle.jc_runner.specs.Legal.{IsLegal, own_events, IsChosenAfter, AllChosen}
+use Rattle.jc_choice.specs.Phases.{last_event_of}
+use Rattle.jc_choice.specs.Legal.{IsLegal, own_events, IsChosenAfter, AllChosen}
 
 -- the states of a network to which a history leads: the given events come before it
 pub legal_states : (s : Scenario) (history : List Event) (N : Network) → IsLegal history s N → After (starts s.scripts) (s.given ++ history) N.states
@@ -102,3 +102,21 @@ chosen_more s p es x all now before e later is of = go (last_or_before es x befo
 pub chosen_none : (s : Scenario) (p : ℕ) → AllChosen s p []
 chosen_none s p [] e later is of = absurd (search (rules, is))
 chosen_none s p (b ∷ before) e later is of = absurd (search (rules, is))
+
+set_elsewhere : {X : Type 0} → (xs : List X) (k p : ℕ) (x : X) → (k ≡ p → ⊥) → slice_get (slice_set xs k x) p ≡ slice_get xs p
+set_elsewhere [] k p x other = refl
+set_elsewhere (y ∷ ys) zero zero x other = absurd (other refl)
+set_elsewhere (y ∷ ys) zero (suc p) x other = refl
+set_elsewhere (y ∷ ys) (suc k) zero x other = refl
+set_elsewhere (y ∷ ys) (suc k) (suc p) x other = set_elsewhere ys k p x (λ e. other (ap suc e))
+
+-- events of others leave a replica as it was
+pub untouched : (p : ℕ) (K : List State) (es : List Event) (M : List State) → After K es M → own_events es p ≡ [] → slice_get M p ≡ slice_get K p
+untouched p K [] M after none = ap (λ l. slice_get l p) (sym after)
+untouched p K (e ∷ es) M after none = go (nat_eq (replica_of e) p) refl (λ h. untouched p after.0 es M after.3 h)
+  where
+    go : (t : Bool) → nat_eq (replica_of e) p ≡ t → (own_events es p ≡ [] → slice_get M p ≡ slice_get after.0 p) → slice_get M p ≡ slice_get K p
+    go true same more = absurd (search (rules, none, same))
+    go false other more =
+        let apart : replica_of e ≡ p → ⊥ = λ is. search (rules, other, is) in
+        more (search (rules, none, other)) ∙ (ap (λ l. slice_get l p) after.2.is_new ∙ set_elsewhere K (replica_of e) p after.2.after apart)

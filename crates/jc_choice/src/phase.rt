@@ -1,6 +1,6 @@
-//! The phase of a replica's thread: how far it is in a yield. choosing.rt chooses by it.
+//! The phase of a replica: how far it is in a yield. choosing.rt chooses by it.
 
-/// What a replica's thread does next at a yield.
+/// What a replica does next at a yield.
 #[derive(Clone, Copy, Debug, PartialEq, Eq)]
 pub enum Phase {
     /// It sends.

@@ -1,6 +1,6 @@
 //! Laws of choices and of schedules. Each function does nothing: its contract is the law.
 
-ghost use Rattle.jc_runner.specs.Laws.{ChoicesAreOwn, NoChoiceIsTheEnd, SchedulesAreWellFormed};
+ghost use Rattle.jc_choice.specs.Laws.{ChoicesAreOwn, NoChoiceIsTheEnd, SchedulesAreWellFormed};
 
 /// What a replica chooses is an event of its own, and its phase is then a function of this event.
 pub fn choices_are_own()

@@ -1,12 +1,11 @@
 -- Histories: what they lead to, the events of one replica, and that these were chosen. Most contracts here cite it.
-use Rattle.std.specs.Prelude.{◌≡◌, ℕ, List, ◌∷◌, ◌++◌, Some}
+use Rattle.std.specs.Prelude.{◌≡◌, ℕ, List, ◌∷◌, ◌++◌, Some, filter, nat_eq}
 use Rattle.jc_rules.specs.declared.operation.Event.{Event}
 use Rattle.jc_rules.specs.Step.{Network, AfterIn, replica_of}
-use Rattle.jc_lock.specs.Knowledge.{own}
 use Rattle.jc_network.specs.Given.{IsStart}
 use Rattle.jc_scenario.specs.WellFormed.{Scenario}
-use Rattle.jc_runner.specs.Phases.{last_event_of}
-use Rattle.jc_runner.specs.Chosen.{chosen}
+use Rattle.jc_choice.specs.Phases.{last_event_of}
+use Rattle.jc_choice.specs.Chosen.{chosen}
 
 -- the events lead, in their order, from the scenario's start to the network
 pub record IsLegal (history : List Event) (s : Scenario) (network : Network) : Type 0 where
@@ -16,7 +15,7 @@ pub record IsLegal (history : List Event) (s : Scenario) (network : Network) : T
 
 -- the events of replica p, in their order
 abbrev pub own_events : List Event → ℕ → List Event
-own_events history p = own replica_of history p
+own_events history p = filter (λ e. nat_eq (replica_of e) p) history
 
 -- after these events the event is the one that its replica chooses
 pub record IsChosenAfter (s : Scenario) (before : List Event) (e : Event) : Type 0 where
