@@ -1,6 +1,7 @@
 -- About specs/Legal: histories that grow, and their parts.
-use Rattle.std.proofs.Common.{rules, ◌≡◌, ◌⊎◌, ℕ, List, [], ◌∷◌, ◌++◌, refl, sym, ◌∙◌, ap, subst, true, false, Bool, nat_eq, inl, inr, Some}
+use Rattle.std.proofs.Common.{rules, ◌≡◌, ◌⊎◌, ℕ, List, [], ◌∷◌, ◌++◌, refl, sym, ◌∙◌, ap, subst, true, false, Bool, nat_eq, zero, suc, inl, inr, Some, slice_get, slice_set}
 use Rattle.jc_rules.specs.declared.operation.Event.{Event}
+use Rattle.jc_rules.specs.State.{State}
 use Rattle.jc_rules.specs.Step.{After, Network, AfterIn, replica_of}
 use Rattle.jc_rules.proofs.VersionLemmas.{after_states, one_after_in}
 use Rattle.jc_network.specs.Given.{before_given}
