@@ -18,7 +18,7 @@ Item = collections.namedtuple("Item", "names owners trait sum mentions whole all
 File = collections.namedtuple("File", "items scope head")
 
 COMMENT = re.compile(r"^ *//[^\n]*\n", re.MULTILINE)
-NOTE = re.compile(r"(?:^|(?<=\s))--(?=\s|$)[^\n]*$", re.MULTILINE)
+NOTE = re.compile(r"^ *--(?: [^\n]*)?\n", re.MULTILINE)
 # A function: its head ends with the first brace behind which there are only lines that are farther in, up to one that
 # closes it. So `rt fmt` leaves it.
 FUNCTION = re.compile(r"^(?P<head>( *)(?:pub(?:\([a-z]+\))? )?fn [^\n]*?(?:\n(?:\2[ )][^\n]*?)?)*?(?: |\n\2)\{\n)"
@@ -33,9 +33,9 @@ KIND = re.compile(r"^(?:pub(?:\([a-z]+\))? )?(ghost use|use|mod|struct|enum|trai
                   re.MULTILINE)
 # An import, which may stand inside an impl or a function, and whether others have it too.
 IMPORT = re.compile(r"^ *(pub(?:\([a-z]+\))? )?(?:ghost )?use ([^;]*);", re.MULTILINE)
-# Names and paths, with the sign before a path that begins with a dot; and operators.
-PATH = re.compile(r"(\.?)((?:[^\W\d]|◌)[\w'◌]*(?:-[\w'◌]+)*(?:(?:\.|::)[\w'◌]+(?:-[\w'◌]+)*)*)(?=(\(|::<)?)")
-OPERATOR = re.compile(r"[^\w\s()\[\]{},;\"'◌]+")
+# A name or a path, with the sign before it where it goes on from what isn't one, and that of a call behind it.
+PATH = re.compile(r"(::|(?<!\.)\.)?((?:[^\W\d]|◌)[\w'◌]*(?:-[\w'◌]+)*"
+                  r"(?:(?:\.|::)[\w'◌]+(?:-[\w'◌]+)*)*)(?=(\(|::<)?)")
 # What a declaration of a definition, of a lemma or of another module begins with, and its name.
 DECLARES = re.compile(r"((?:(?:pub|abbrev|unfoldable|data|record|ruleset|mutual|axiom|pattern|use|mod|module|"
                       r"infix[lr]?)(?: |$))*)([^\s(){}\[\],:]*)", re.MULTILINE)
@@ -128,7 +128,7 @@ class Scope:
             head, *rest = parts_of_path(path)
             if dot or not self.has(head, path):
                 # A field, or a variable: of what is behind it only a method is an item.
-                names.update([head, *rest][-1:] if call and (dot or rest) else ())
+                names.update([head, *rest] if dot == "::" else [head, *rest][-1:] if call and (dot or rest) else ())
                 continue
             for at in self.imports.get(head) or [self.declared.get(head, head)]:
                 used.add(f"{head} {at}")
@@ -338,11 +338,12 @@ class Theory(Reader):
             self.define({name}, f"pub use {at} as {name}")
 
     def take_module(self, text, name, above):
-        """Takes what is in a module inside a file, each with the module's head."""
+        """Takes what is in a module inside a file: each with the module's head, or all as one where it has a name."""
         head = re.match(r".*?\bwhere\n", text, re.DOTALL)
         margin = re.match(r" +", text[head.end():]) if head else None
-        self.declared[name] = f"{self.module}.{name}"
-        if margin:
+        if name != "_":
+            self.define({name}, above + text)
+        elif margin:
             self.take_all(text[head.end():], margin[0], above + head[0])
         else:
             self.define((), above + text)

@@ -13,7 +13,7 @@ import time
 from cases import IN_TEST, expect, expect_same, folder_of, place, stored
 from crates import BUILT, lack_of_built
 from dependencies import Kept, Tree
-from statements import Source, Theory
+from statements import Source, Theory, sum_of
 
 # A command rt for which an edit comes to what its file has beside its pairs of lines. A crate isn't proved that has a
 # file `unproved`.
@@ -131,6 +131,13 @@ def line_by_hand(folder):
     replace(folder, RECORD, "^jc_b edit one .*$", line)
 
 
+def short_by_hand(folder):
+    """Of what an edit stands on only the first sum is left, with the right sum of the crate's lines."""
+    replace(folder, RECORD, r"^(jc_b edit one \w{12})\S+", r"\1")
+    lines = re.findall("^jc_b edit .*$", read(folder, RECORD), re.MULTILINE)
+    replace(folder, RECORD, "^jc_b tried .*$", f"jc_b tried {sum_of('more-edits', *lines)}")
+
+
 def verdict_by_hand(folder):
     write(folder, "crates/jc_b/more-edits/one.edit", NOT_REFUSED)
     more_edits(folder)
@@ -173,6 +180,7 @@ HOLES = {
                                        {"jc_c": "crates.txt hasn't this crate"}),
     "another kit": (append("kit"), {name: BOTH for name in NAMES}),
     "a sum by hand": (line_by_hand, {"jc_b": NO_RUN, "jc_c": BOTH}),
+    "a shorter line by hand": (short_by_hand, {"jc_b": wanting("one")}),
     "a verdict by hand": (verdict_by_hand, {"jc_b": NO_RUN}),
     "a line less": (lambda folder: replace(folder, RECORD, "^jc_b edit two .*\n", ""), {"jc_b": NO_RUN}),
     "no sum of the lines": (lambda folder: replace(folder, RECORD, "^jc_b tried .*\n", ""), {"jc_b": NO_RUN}),
@@ -193,11 +201,16 @@ unfolding one
 lem-one n = n
 
 abbrev two : N
-two = 2 -- it is
+two = 2
 
 module _ (n : N) where
+  -- why
   pub three : N
   three = n
+
+module Named where
+  pub four : N
+  four = 4
 
 mutual
   pub data Tree : Type where
@@ -229,12 +242,48 @@ STATED = (
 DEFINED = (
     (True, [(["lem-one"], "pub lem-one : (n : N)\n  → one n\n"), (["two"], "abbrev two : N\ntwo = 2\n"),
             (["three"], "module _ (n : N) where\n  pub three : N\n"),
+            (["Named"], "module Named where\n  pub four : N\n  four = 4\n"),
             (["Tree", "leaf"], "mutual\n  pub data Tree : Type where\n    leaf : Tree\nmore\n")]),
     (False, [(["lem-one"], "pub lem-one : (n : N)\n  → one n\nunfolding one\nlem-one n = n\n"),
              (["two"], "abbrev two : N\ntwo = 2\n"),
              (["three"], "module _ (n : N) where\n  pub three : N\n  three = n\n"),
-             (["Tree", "leaf"], "mutual\n  pub data Tree : Type where\n    leaf : Tree\nmore\n")]),
+             (["Named"], "module Named where\n  pub four : N\n  four = 4\n"),
+            (["Tree", "leaf"], "mutual\n  pub data Tree : Type where\n    leaf : Tree\nmore\n")]),
 )
+
+
+# A source with these imports, texts of it, and the names of items that they mention.
+IMPORTS = """use jc_a::deep::{Pair, far as near_by};
+ghost use Rattle.jc_a.specs.Ones.{is_one, ◌⊑◌};
+ghost use Rattle.jc_a.specs.declared.deep.Pair.TheVariants as P;
+ghost use Rattle.jc_a.specs.Twos as twos;
+
+fn own() {
+    1
+}
+"""
+MENTIONED = (
+    ("near_by(x)", "far near_by"),
+    ("own() + other()", "own"),
+    ("pair.first.second().third", "second"),
+    ("pair.first::<u8>()", "first"),
+    ("Pair::<u8>::new(1)", "Pair new"),
+    ("<Pair as Show>::show", "Pair show"),
+    ("Pair::new, jc_a::deep::far", "Pair new far jc_a"),
+    ("a..pair.len()", "len"),
+    ("is_one result.now", "Rattle.jc_a.specs.Ones Rattle.jc_a.specs.Ones.is_one"),
+    ("a ⊑ b", "Rattle.jc_a.specs.Ones Rattle.jc_a.specs.Ones.◌⊑◌"),
+    ("P.Left", "Left Pair TheVariants"),
+    ("twos.four", "Rattle.jc_a.specs.Twos Rattle.jc_a.specs.Twos.four"),
+    ("Rattle.jc_b.proofs.Some.lem x", "Rattle.jc_b.proofs.Some Rattle.jc_b.proofs.Some.lem"),
+    ("#[tactic(auto, using(crate::proofs::Some::lem))]",
+     "Some lem crate Rattle.jc_b.proofs.Some Rattle.jc_b.proofs.Some.lem"),
+)
+
+
+def mentioned_case(text, names):
+    scope = Source("jc_b/src/lib.rt", IMPORTS).read().scope
+    return f"more-edits: names in {text}", lambda _: expect_same(scope.mentioned(text)[0] - {"◌"}, {*names.split()})
 
 
 def stated(reader):
@@ -658,7 +707,12 @@ def has_portions(_):
         expect_same(told, [("jc_b", "7", "12", "0"), ("jc_b", "6", "6", "0"), ("jc_b", "6", "0", "0")])
         expect_same(read(folder, "built").split(), [
             "jc_a/out/rlib/jc_a.rlib/format", "jc_b/out/incremental/one/judged", "jc_b/out/incremental/one/some.oantt"])
-        lines, told = noted(folder, ["--jobs", "2", "jc_a", "jc_c"], 2)
+        append("crates/jc_b/src/lib.rt")(folder)
+        many = f"19 of its 19 edits want trying: {', '.join(f'edit{number:02}' for number in range(8))}, and 11 more"
+        expect_end(folder, ["--check", "jc_b"], 1, "", told_of({"jc_b": many}))
+        lines, _ = noted(folder, ["--anew", "jc_b"], 1)
+        expect_same([len(line[3:]) for line in lines], [19])
+        lines, _ = noted(folder, ["--jobs", "2", "jc_a", "jc_c"], 2)
         expect_same(sorted(line[0] for line in lines), ["jc_a", "jc_a", "jc_c", "jc_c"])
         expect_same([len(line[3:]) for line in lines], [1] * 4)
         expect({line[1] for line in lines} == {"1"} and max(line[2] for line in lines) == "2", f"{lines}")
@@ -790,6 +844,8 @@ def gate():
     yield from map(hole_case, HOLES)
     for row in STATED:
         yield source_case(*row)
+    for row in MENTIONED:
+        yield mentioned_case(*row)
     for row in DEFINED:
         yield theory_case(*row)
     yield from map(reached_case, REACHED)
