@@ -206,12 +206,12 @@ class Tree:
 
     def proofs(self, name, path, item):
         """The files of the proofs of a function, and of those that are proved with it: in the folder of its module, or
-        one there of its type or an impl of that."""
+        in one of its type or an impl of that, which is where the type is."""
         of, function, cycle = item.place
         module = os.path.join("proofs", path.removeprefix("src/").removesuffix(".rt").removesuffix("lib")).rstrip("/")
         for at, proof in [each for folder in {function, f"+{function}", f"+{cycle}"}
                           for each in self.folders(name)[folder]]:
-            if at == module or of is not None and at.startswith(f"{module}/{of}") and "/" not in at[len(module) + 1:]:
+            if at == module or of is not None and os.path.basename(at).startswith(of):
                 yield proof
 
     def parts(self, name, edit):

@@ -364,6 +364,8 @@ HIGHEST = """use jc_b::middle;
 
 pub const MOST: u8 = 3;
 
+pub struct Held;
+
 pub fn top() -> u8
     ensures { result ≡ 1 }
 {
@@ -398,7 +400,10 @@ REACHING = {
     "crates/jc_c/proofs/top/Answers.antt": "use Rattle.jc_a.proofs.Lemmas.{lem}\n\nreturns : goal.returns\n"
                                            "returns c = lem\n",
     "crates/jc_c/proofs/near/Answers.antt": "returns : goal.returns\nreturns c = refl\n",
+    "crates/jc_c/src/more.rt": "use crate::Held;\n\nimpl Held {\n    fn hold(&self) -> u8 {\n        6\n    }\n}\n",
+    "crates/jc_c/proofs/Held/hold/Answers.antt": "returns : goal.returns\nreturns c = refl\n",
     "crates/jc_c/proofs/+round/Answers.antt": "returns : goal.returns\nreturns c = refl\n",
+    "crates/jc_c/more-edits/hold.edit": f"{REFUSED}file: src/more.rt\nold:         6\nnew:         7\n",
     **{f"crates/jc_c/more-edits/{name}.edit": f"{REFUSED}file: src/lib.rt\n{pairs}" for name, pairs in {
         "both": "old:     pair.first()\nnew:     3\nfile: src/lib.rt\nold:     2\nnew:     4\n",
         "line": "old: u8 = 3\nnew: u8 = 4\n",
@@ -408,7 +413,7 @@ REACHING = {
 }
 A, C = "crates/jc_a/src/lib.rt", "crates/jc_c/src/lib.rt"
 DEFINITIONS, PROOFS = "crates/jc_a/specs/Ones.antt", "crates/jc_a/proofs/Lemmas.antt"
-EACH = ["both", "line", "near", "ping", "top"]
+EACH = ["both", "hold", "line", "near", "ping", "top"]
 OF_TOP = ["both", "line", "top"]
 # What is changed, where, and which edits then want trying. One changes a line outside of functions: it stands on all of
 # its crate and on all statements below.
@@ -442,6 +447,8 @@ REACHED = {
     "the function's body": (C, "^    let pair", "    let one = 1;\n    let pair", OF_TOP),
     "the body of a function of its cycle": (C, r"^    ping\(\)", "    let one = 1;\n    ping()", ["line", "ping"]),
     "the proof of its cycle": ("crates/jc_c/proofs/+round/Answers.antt", "= refl", "= (refl)", ["line", "ping"]),
+    "the proof of a method, beside its type": ("crates/jc_c/proofs/Held/hold/Answers.antt", "= refl", "= (refl)",
+                                               ["hold", "line"]),
     "an attribute of a module": (C, r"\A", "#[tactic(auto)]\nmod more;\n", EACH),
     "another function's body": (C, "^    2$", "    let one = 1;\n    2", ["both", "line", "near"]),
     "an attribute of all functions": (C, r"\A", "#![tactic(auto)]\n", EACH),
@@ -475,7 +482,7 @@ def reached_case(what):
                 write(folder, path, text)
             else:
                 replace(folder, path, pattern, text)
-            wrong = {"jc_c": wanting(*edits, of=5)} if edits else {}
+            wrong = {"jc_c": wanting(*edits, of=6)} if edits else {}
             expect_end(folder, ["--check"], int(bool(edits)), "", told_of(wrong) if edits else "")
 
     return f"more-edits: --check and {what}", tried
@@ -529,7 +536,8 @@ MADE = re.compile(r"\.(Goals|Given|The[A-Z]\w*)(\.|$)")
 
 def understands_all(_):
     """Each name of a definition or a lemma that one of our crates has by an import leads to an item or a file there,
-    and all of them is understood. What leads nowhere would be missed where it changes."""
+    all of them is understood, and each answer is one of a function. What leads nowhere would be missed where it
+    changes."""
     tree = Tree(".", "", Kept(os.devnull))
     files = [(name, path, file) for name in tree.crates for path, file in tree.files(name).items()]
     items = {each for *_, file in files for item in file.items for each in item.names or ()}
@@ -544,6 +552,11 @@ def understands_all(_):
             if ours and not leads and not MADE.search(at):
                 lost.add(f"{at} in {name}/{path}")
         lost |= {f"{name}/{path}" for item in file.items if not item.names and item.owners is None}
+    for name in tree.crates:
+        found = {proof for path, file in tree.files(name).items() for item in file.items if item.place
+                 for proof in tree.proofs(name, path, item)}
+        lost |= {f"{name}/{path}" for path in tree.texts(name)
+                 if path.startswith("proofs/") and path.count("/") > 1 and path not in found}
     expect(len(items) > 9000 and not lost, f"{len(items)} items; {sorted(lost)[:9]}")
 
 
