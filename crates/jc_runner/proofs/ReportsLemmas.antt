@@ -1,5 +1,5 @@
 -- About specs/Reports: what the passes know of the history that the closed bench returns.
-use Rattle.std.proofs.Common.{rules, arith, ◌≡◌, ℕ, zero, suc, ◌+◌, ◌≤◌, ◌<◌, List, [], ◌∷◌, ◌++◌, refl, sym, ◌∙◌, ap, subst, Bool, true, false, nat_eq, length, length-append, append-nil, sum, map, get_or, inl, inr, slice_get, slice_set}
+use Rattle.std.proofs.Common.{rules, arith, ◌≡◌, ℕ, zero, suc, ◌+◌, ◌≤◌, ◌<◌, List, [], ◌∷◌, ◌++◌, refl, sym, ◌∙◌, ap, subst, Bool, true, false, nat_eq, length, length-append, append-nil, sum, map, get_or, inl, inr, slice_get}
 use Rattle.std.specs.Prelude.{All}
 use Rattle.std.specs.List.{range_with_len}
 use Rattle.std.proofs.lemmas.List.Elements.{All-nil, All-cons, All-head, All-tail, All-get_or}
@@ -7,8 +7,7 @@ use mathlib.Core.Logic.{dite}
 use native.Mathlib.Decide.{ℕ_discrete}
 use mathlib.Core.List.{IsPrefix}
 use Rattle.jc_rules.specs.declared.operation.Event.{Event}
-use Rattle.jc_rules.specs.State.{State}
-use Rattle.jc_rules.specs.Step.{After, Network, replica_of}
+use Rattle.jc_rules.specs.Step.{Network, replica_of}
 use Rattle.jc_rules.proofs.VersionLemmas.{after_states}
 use Rattle.jc_scenario.specs.WellFormed.{Scenario, IsWellFormedScenario}
 use Rattle.jc_scenario.specs.Views.{scenario_view}

@@ -16,9 +16,9 @@ ghost use Rattle.jc_weave.specs.Weaving.{all_start, numbers_from, loom, counts_i
 
 use crate::drawing::{draw, phase_at};
 use crate::ending::{counts_of, ends_of};
+use jc_choice::{End, Phase, choose};
 use jc_network::{Net, StartFault, StepFault, Stuck};
 use jc_rules::{Event, Text};
-use jc_choice::{End, Phase, choose};
 use jc_scenario::Scenario;
 use rand_pcg::Pcg32;
 use std::alloc::{AllocError, Global};
