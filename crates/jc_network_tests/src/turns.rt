@@ -11,7 +11,7 @@ use crate::networks::{
 use crate::undoing::there_and_back;
 use jc_network::Net;
 use jc_rules::Event;
-use jc_runner::Phase;
+use jc_choice::Phase;
 use std::alloc::Global;
 use std::cell::Cell;
 use std::process::Abort;

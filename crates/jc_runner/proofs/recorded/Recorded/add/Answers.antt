@@ -13,6 +13,6 @@ invariant_of-self-2 c =
     rw (c.push_reserved.ensures.items, c.reserve.ensures.items) (record {
       legal = record { start = was.legal.start; is_start = was.legal.is_start; after = after_one_more _ _ _ _ _ _ was.legal.after made.step };
       named = made.names ∙ was.named;
-      counted = omega (arith, was.counted, ap length counted, older, longer);
-      small = omega (arith, was.counted, room, longer);
+      begun = ap (λ (k : NetworkHistory). k.history.earlier) c.begin.ensures;
+      small = omega (arith, room, longer);
     })
