@@ -112,13 +112,13 @@ fn outcome_of(report: &Report) -> Outcome {
     outcome
 }
 
-/// Whether the schedule has as many events as were made.
+/// Whether the schedule has as many events as were made, of which none can be taken back.
 fn is_summed(report: &Report) -> bool {
     let mut all = 0u64;
     for made in &report.made {
         all = all.saturating_add(*made);
     }
-    all == report.schedule.len() as u64 && all == report.net.steps()
+    all == report.schedule.len() as u64 && report.net.steps() == 0
 }
 
 /// A run of two threads.

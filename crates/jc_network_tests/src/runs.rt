@@ -403,7 +403,7 @@ fn is_filled(rt: &impl Abort, report: &Report) {
     made_and_ended(rt, report, &[full, full]);
     holds(
         rt,
-        report.schedule.len() == 100_000 && report.net.steps() == 100_000,
+        report.schedule.len() == 100_000 && report.net.steps() == 0,
     );
 }
 
