@@ -15,7 +15,7 @@ pub(crate) enum Halt {
 
 /// Why a step didn't make all events.
 #[derive(Drop)]
-pub enum DebugStepFault {
+pub enum StepFault {
     /// The schedule has fewer events left. Nothing moved.
     AtEnd,
     /// The next event can't be made.
@@ -24,20 +24,20 @@ pub enum DebugStepFault {
     Memory,
 }
 
-impl DebugStepFault {
+impl StepFault {
     /// A copy.
     pub fn copy(&self) -> Result<Self, AllocError>
         ensures { IfOk result (λ fault. fault ≡ self.now) }
     {
         match self {
-            DebugStepFault::AtEnd => Ok(DebugStepFault::AtEnd),
-            DebugStepFault::Stuck(stuck) => Ok(DebugStepFault::Stuck(stuck.copy()?)),
-            DebugStepFault::Memory => Ok(DebugStepFault::Memory),
+            StepFault::AtEnd => Ok(StepFault::AtEnd),
+            StepFault::Stuck(stuck) => Ok(StepFault::Stuck(stuck.copy()?)),
+            StepFault::Memory => Ok(StepFault::Memory),
         }
     }
 }
 
-impl From<Halt> for DebugStepFault {
+impl From<Halt> for StepFault {
     ghost use Rattle.std.specs.Prelude.{◌≡◌};
     ghost use Rattle.jc_debug.specs.Moves.{step_fault};
 
@@ -45,8 +45,8 @@ impl From<Halt> for DebugStepFault {
 
     fn from(halt: Halt) -> Self {
         match halt {
-            Halt::Stuck(stuck) => DebugStepFault::Stuck(stuck),
-            Halt::Memory { at: _ } => DebugStepFault::Memory,
+            Halt::Stuck(stuck) => StepFault::Stuck(stuck),
+            Halt::Memory { at: _ } => StepFault::Memory,
         }
     }
 }
@@ -115,7 +115,7 @@ impl RunEnd {
 
 /// Why a run didn't start or go on.
 #[derive(Clone, Copy)]
-pub enum DebugRunFault {
+pub enum RunFault {
     /// No event was left. Nothing moved.
     AtEnd,
     /// There was no memory for the next event.

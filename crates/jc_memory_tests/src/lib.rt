@@ -13,8 +13,6 @@ mod debugging;
 #[cfg(test)]
 mod due;
 #[cfg(test)]
-mod halting;
-#[cfg(test)]
 mod memory;
 #[cfg(test)]
 mod networks;
@@ -24,8 +22,6 @@ mod rows;
 mod scenarios;
 #[cfg(test)]
 mod sessions;
-#[cfg(test)]
-mod sharing;
 #[cfg(test)]
 mod steps;
 #[cfg(test)]

@@ -14,11 +14,10 @@ use crate::commands::texts;
 use crate::due::AnyOf;
 use crate::memory::{SPARE, block, fill_beside_threads, leave};
 use crate::rows::{DELETION, scene};
-use jc_choice::End;
 use jc_fakes::Bytes;
 use jc_io::ReadFault;
 use jc_program::{Files, work};
-use jc_runner::{Gate, Report, RunFault, run_threads};
+use jc_runner::{End, Gate, Report, RunFault, run_threads};
 use jc_scenario::Scenario;
 use std::alloc::{AllocError, Global};
 use std::process::Abort;
@@ -112,13 +111,13 @@ fn outcome_of(report: &Report) -> Outcome {
     outcome
 }
 
-/// Whether the schedule has as many events as were made, of which none can be taken back.
+/// Whether the schedule has as many events as were made.
 fn is_summed(report: &Report) -> bool {
     let mut all = 0u64;
     for made in &report.made {
         all = all.saturating_add(*made);
     }
-    all == report.schedule.len() as u64 && report.net.steps() == 0
+    all == report.schedule.len() as u64 && all == report.net.steps()
 }
 
 /// A run of two threads.

@@ -24,10 +24,10 @@ use Rattle.jc_session.proofs.WrittenLemmas.{wrote_both, part_after}
 use Rattle.jc_program.specs.declared.run.RunFault.{RunFault}
 use Rattle.jc_program.specs.declared.run.RunFault.TheVariants.{Write}
 use Rattle.jc_program.specs.JournalResult.{OfEventLine, OfStuckLine, JournalsNext, IsNextLine, JournalsAll, AreLinesDue}
-use Rattle.jc_program.specs.Journals.{rows_asked, JournalBy, JournalOf, JournalStops}
+use Rattle.jc_program.specs.Journals.{rows_asked, JournalBy, JournalOf, JournalBegins}
 use Rattle.jc_program.specs.Runs.{Made, events_of}
 use Rattle.jc_program.proofs.JournalsLemmas.{lines_more, journal_to}
-use Rattle.jc_program.proofs.PlayResultLemmas.{made_count, events_of-append, split_here}
+use Rattle.jc_program.proofs.PlayResultLemmas.{made_count, events_of-append}
 
 -- ---- one line
 
@@ -221,16 +221,9 @@ module _ (trace given : Bool) (old now : NetworkHistory) (es : List Event) (i : 
       }
 
   -- those before a want of memory
-  pub lines_stand : (c : Stream) (d : Event) → i < length es → c ≡ b → Written (JournalStops trace given old.names old.history.now es) a c
-  lines_stand c d inside same = (
+  pub lines_stand : (c : Stream) → c ≡ b → Written (JournalBegins trace given old.names old.history.now es) a c
+  lines_stand c same = (
     so_far.text,
-    record {
-      made = so_far.made;
-      next = get_or es i d;
-      more = drop (i + 1) es;
-      last = now.history.now;
-      goes = so_far.goes;
-      are_first = split_here es i so_far.made d inside so_far.taken;
-    },
+    record { made = so_far.made; more = drop i es; last = now.history.now; goes = so_far.goes; are_first = sym (take-append-drop i es) ∙ ap (λ l. l ++ drop i es) so_far.taken },
     subst (λ (s : Stream). Wrote so_far.text a s) (sym same) so_far.wrote,
   )

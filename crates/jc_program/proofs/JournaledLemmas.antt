@@ -11,16 +11,16 @@ use Rattle.jc_cli.specs.declared.order.View.TheVariants.{Journal}
 use Rattle.jc_session.specs.Written.{Stream, Wrote, Written, WrittenInPart}
 use Rattle.jc_session.proofs.WrittenLemmas.{wrote_none, wrote_both, part_after}
 use Rattle.jc_program.specs.JournalResult.{JournalsAll, AreLinesDue}
-use Rattle.jc_program.specs.Journals.{JournalOf, Journaled, given_stuck, ran, JournalBegins, JournalStops, IsJournalUnfinished}
+use Rattle.jc_program.specs.Journals.{JournalOf, Journaled, given_stuck, ran, JournalBegins, AreFirstLines}
 use Rattle.jc_program.specs.Runs.{Stuck, status_of}
 use Rattle.jc_program.specs.ViewOutput.{IsJournalDue}
 use Rattle.jc_program.specs.ViewText.{Shows}
-use Rattle.jc_program.proofs.JournalsLemmas.{journal_as, begins_as, stops_as}
+use Rattle.jc_program.proofs.JournalsLemmas.{journal_as, begins_as}
 
 -- where there was no memory for the network, nothing was written
-pub nothing_journaled : (trace : Bool) (s : Scenario) (a b : Stream) → b ≡ a → Written (IsJournalUnfinished trace s) a b
+pub nothing_journaled : (trace : Bool) (s : Scenario) (a b : Stream) → b ≡ a → Written (AreFirstLines trace s) a b
 nothing_journaled trace s a b same =
-    ([], inl refl, wrote_none a b same)
+    ([], inl (record { made = []; more = s.given; last = before_given s; goes = (refl, refl); are_first = refl }), wrote_none a b same)
 
 -- the status for a stuck event, and that for none
 some_status : (stuck : Option Stuck) → is_some stuck ≡ true → status_of stuck ≡ 3
@@ -51,9 +51,6 @@ module _ (trace : Bool) (s : Scenario) (first : NetworkHistory) (from : IsBefore
   given_journal : (last : Network) (stuck : Option Stuck) (text : List ℕ) → JournalOf trace true first.names first.history.now given last stuck text → JournalOf trace true s.names (before_given s) s.given last stuck text
   given_journal last stuck text h = journal_as trace true first.names s.names first.history.now (before_given s) given s.given last stuck text from.called from.network are_given h
 
-  given_stops_at : (text : List ℕ) → JournalStops trace true first.names first.history.now given text → JournalStops trace true s.names (before_given s) s.given text
-  given_stops_at text h = stops_as trace true first.names s.names first.history.now (before_given s) given s.given text from.called from.network are_given h
-
   given_begins : (text : List ℕ) → JournalBegins trace true first.names first.history.now given text → JournalBegins trace true s.names (before_given s) s.given text
   given_begins text h = begins_as trace true first.names s.names first.history.now (before_given s) given s.given text from.called from.network are_given h
 
@@ -81,8 +78,8 @@ module _ (trace : Bool) (s : Scenario) (first : NetworkHistory) (from : IsBefore
   }
 
   -- the lines of some first ones
-  pub given_stand : (a b : Stream) → Written (JournalStops trace true first.names first.history.now given) a b → Written (IsJournalUnfinished trace s) a b
-  given_stand a b h = (h.0, inr (inl (given_stops_at h.0 h.1)), h.2)
+  pub given_stand : (a b : Stream) → Written (JournalBegins trace true first.names first.history.now given) a b → Written (AreFirstLines trace s) a b
+  given_stand a b h = (h.0, inl (given_begins h.0 h.1), h.2)
 
   -- a line was begun
   pub given_part : (a b : Stream) → WrittenInPart (AreLinesDue trace true first.names first.history.now given) a b → WrittenInPart (IsJournalDue trace s) a b
@@ -94,9 +91,6 @@ module _ (trace : Bool) (s : Scenario) (first : NetworkHistory) (from : IsBefore
 module _ (trace : Bool) (s : Scenario) (begun : NetworkHistory) (a b : Stream) (led : HasLed trace s begun a b) (schedule : List Event) (are_scheduled : schedule ≡ s.schedule) where
   later_begins : (text : List ℕ) → JournalBegins trace false begun.names begun.history.now schedule text → JournalBegins trace false s.names led.start s.schedule text
   later_begins text h = begins_as trace false begun.names s.names begun.history.now led.start schedule s.schedule text led.names led.network are_scheduled h
-
-  later_stops : (text : List ℕ) → JournalStops trace false begun.names begun.history.now schedule text → JournalStops trace false s.names led.start s.schedule text
-  later_stops text h = stops_as trace false begun.names s.names begun.history.now led.start schedule s.schedule text led.names led.network are_scheduled h
 
   journaled : (last : Network) (stuck : Option Stuck) (text : List ℕ) → JournalOf trace false begun.names begun.history.now schedule last stuck text → Journaled trace s (led.first ++ text) (status_of stuck)
   journaled last stuck text h =
@@ -113,9 +107,9 @@ module _ (trace : Bool) (s : Scenario) (begun : NetworkHistory) (a b : Stream) (
       (led.first ++ h.text, subst (λ (n : ℕ). Journaled trace s (led.first ++ h.text) n) (none_status h.stuck (h.tells ∙ none)) (journaled last.history.now h.stuck h.text h.journal), wrote_both a b c led.first h.text led.wrote h.written)
 
   -- the lines of some first ones
-  pub schedule_stand : (c : Stream) → Written (JournalStops trace false begun.names begun.history.now schedule) b c → Written (IsJournalUnfinished trace s) a c
+  pub schedule_stand : (c : Stream) → Written (JournalBegins trace false begun.names begun.history.now schedule) b c → Written (AreFirstLines trace s) a c
   schedule_stand c h =
-      (led.first ++ h.0, inr (inr (led.start, led.first, h.0, led.given, later_stops h.0 h.1, refl)), wrote_both a b c led.first h.0 led.wrote h.2)
+      (led.first ++ h.0, inr (led.start, led.first, h.0, led.given, later_begins h.0 h.1, refl), wrote_both a b c led.first h.0 led.wrote h.2)
 
   -- a line was begun
   pub schedule_part : (c : Stream) → WrittenInPart (AreLinesDue trace false begun.names begun.history.now schedule) b c → WrittenInPart (IsJournalDue trace s) a c

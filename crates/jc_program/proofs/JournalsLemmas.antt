@@ -11,7 +11,7 @@ use Rattle.jc_network.specs.Given.{IsGivenStuck}
 use Rattle.jc_network.proofs.MembersLemmas.{set_there}
 use Rattle.jc_journal.specs.EventLine.{event_line}
 use Rattle.jc_journal.specs.StuckLine.{stuck_event_line}
-use Rattle.jc_program.specs.Journals.{rows_asked, JournalBy, JournalOf, JournalBegins, JournalStops}
+use Rattle.jc_program.specs.Journals.{rows_asked, JournalBy, JournalOf, JournalBegins}
 use Rattle.jc_program.specs.Runs.{Made, Stuck, GoesBy, events_of}
 use Rattle.jc_program.proofs.PlayResultLemmas.{split_here}
 
@@ -132,9 +132,3 @@ begins_as trace given names ns network N events es text p q r h =
     subst (λ (x : List (List ℕ)). JournalBegins trace given x N es text) p
     (subst (λ (x : Network). JournalBegins trace given names x es text) q
     (subst (λ (x : List Event). JournalBegins trace given names network x text) r h))
-
-pub stops_as : (trace given : Bool) (names ns : List (List ℕ)) (network N : Network) (events es : List Event) (text : List ℕ) → names ≡ ns → network ≡ N → events ≡ es → JournalStops trace given names network events text → JournalStops trace given ns N es text
-stops_as trace given names ns network N events es text p q r h =
-    subst (λ (x : List (List ℕ)). JournalStops trace given x N es text) p
-    (subst (λ (x : Network). JournalStops trace given names x es text) q
-    (subst (λ (x : List Event). JournalStops trace given names network x text) r h))

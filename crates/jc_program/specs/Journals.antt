@@ -77,25 +77,3 @@ AreFirstLines trace s text =
     × JournalOf trace true s.names (before_given s) s.given start None first
     × JournalBegins trace false s.names start s.schedule rest
     × (text ≡ first ++ rest))
-
--- The text has the lines of some first events, and there is a next event, whose line it lacks.
-pub record JournalStops
-    (trace given : Bool) (names : List (List ℕ)) (network : Network) (events : List Event) (text : List ℕ)
-    : Type 0 where
-  pub made : List Made
-  pub next : Event
-  pub more : List Event
-  pub last : Network
-  pub goes : JournalBy trace given names 1 network made last text
-  pub are_first : events ≡ events_of made ++ next ∷ more
-
--- Nothing; or the lines of some first given events of a scenario, but not of all; or those of all, and of some first
--- events of its schedule, but not of all.
-abbrev pub IsJournalUnfinished : Bool → Scenario → List ℕ → Type 0
-IsJournalUnfinished trace s text =
-    (text ≡ [])
-    ⊎ JournalStops trace true s.names (before_given s) s.given text
-    ⊎ ((start : Network) × (first rest : List ℕ)
-    × JournalOf trace true s.names (before_given s) s.given start None first
-    × JournalStops trace false s.names start s.schedule rest
-    × (text ≡ first ++ rest))

@@ -12,7 +12,7 @@ use Rattle.jc_view.specs.Visible.{views_text}
 use Rattle.jc_session.specs.Written.{Stream, Written, WrittenInPart}
 use Rattle.jc_program.specs.declared.fault.WorkFault.{WorkFault}
 use Rattle.jc_program.specs.declared.fault.WorkFault.TheVariants.{Read, Write, TooManyLines, NoThread, Memory}
-use Rattle.jc_program.specs.Journals.{AreFirstLines, IsJournalUnfinished}
+use Rattle.jc_program.specs.Journals.{AreFirstLines}
 use Rattle.jc_program.specs.Texts.{event_text}
 use Rattle.jc_program.specs.Runs.{Made, Stuck, GoesBy, Plays, events_of, events_text}
 use Rattle.jc_network.specs.Given.{IsStart}
@@ -104,13 +104,13 @@ IsViewUnfinished events s text =
     ⊎ ((start : Network) × IsStart s start
     × Unfinished false s.names start (take events s.schedule) (views_text s.names) text)
 
--- whole texts of a view of a scenario, without the last one
+-- whole texts of a view of a scenario, without the last one; of a journal the lines of the first events
 abbrev pub IsUnfinishedOf : View → Scenario → List ℕ → Type 0
 IsUnfinishedOf Check s text = text ≡ []
 IsUnfinishedOf Print s text = text ≡ []
 IsUnfinishedOf (Run trace) s text = IsRunUnfinished trace s text
 IsUnfinishedOf (Document events) s text = IsViewUnfinished events s text
-IsUnfinishedOf (Journal trace) s text = IsJournalUnfinished trace s text
+IsUnfinishedOf (Journal trace) s text = AreFirstLines trace s text
 
 -- Whole texts of a view of these bytes, without the last one; or nothing, where the bytes weren't read or have a fault.
 abbrev pub IsUnfinished : View → List ℕ → List ℕ → Type 0

@@ -11,7 +11,7 @@ ghost use Rattle.jc_journal.specs.Parts.{rows_of};
 ghost use Rattle.jc_cli.specs.declared.order.View.TheVariants as V;
 ghost use Rattle.jc_session.specs.Written.{sink, Wrote, WrotePart, Written, WrittenInPart};
 ghost use Rattle.jc_program.specs.JournalResult.{OfEventLine, OfStuckLine, JournalsNext, IsNextLine, JournalsAll, AreLinesDue};
-ghost use Rattle.jc_program.specs.Journals.{rows_asked, JournalStops, IsJournalUnfinished};
+ghost use Rattle.jc_program.specs.Journals.{rows_asked, JournalBegins, AreFirstLines};
 ghost use Rattle.jc_program.specs.ViewOutput.{IsJournalDue};
 ghost use Rattle.jc_program.specs.ViewText.{Shows};
 
@@ -119,7 +119,7 @@ fn journal_events<K: Sink>(
     ensures ok { IfOk result
         (JournalsAll trace given net.old net.new events.now (sink K.Sink out.old) (sink K.Sink out.new)) }
     ensures memory { IsErrOf result RunFault.Memory
-        → Written (JournalStops trace given net.old.names net.old.history.now events.now)
+        → Written (JournalBegins trace given net.old.names net.old.history.now events.now)
         (sink K.Sink out.old) (sink K.Sink out.new) }
     ensures write { IsErrOf result RunFault.Write
         → WrittenInPart (AreLinesDue trace given net.old.names net.old.history.now events.now)
@@ -153,7 +153,7 @@ pub fn journal_through<K: Sink>(
     requires { IsWellFormedScenario (scenario_view scenario) }
     ensures ok { IfOk result (λ status. Written (λ text. Shows (V.Journal trace) (scenario_view scenario) text status)
         (sink K.Sink out.old) (sink K.Sink out.new)) }
-    ensures memory { IsErrOf result RunFault.Memory → Written (IsJournalUnfinished trace (scenario_view scenario))
+    ensures memory { IsErrOf result RunFault.Memory → Written (AreFirstLines trace (scenario_view scenario))
         (sink K.Sink out.old) (sink K.Sink out.new) }
     ensures write { IsErrOf result RunFault.Write → WrittenInPart (IsJournalDue trace (scenario_view scenario))
         (sink K.Sink out.old) (sink K.Sink out.new) }

@@ -4,7 +4,6 @@
 mod alone;
 mod fault;
 mod files;
-mod gates;
 mod journal;
 pub mod laws;
 mod lines;

@@ -1,5 +1,10 @@
+pub mod LegalGrowsLemmas
+pub mod ChosenLemmas
+mod ChosenStoredLemmas
 pub mod WorkerResultLemmas
-pub mod ReportsLemmas
+pub mod ChosenNamesLemmas
 mod ElementsKnownLemmas
+pub mod LegalLemmas
+pub mod ReportsLemmas
 mod CrossesLemmas
 mod AskedLemmas

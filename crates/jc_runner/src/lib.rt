@@ -13,13 +13,18 @@
 #![tactic(auto)]
 
 mod bench;
+mod choosing;
+pub mod laws;
+mod phase;
 mod recorded;
 mod run;
 mod starting;
 mod worker;
 
 pub use bench::{Bench, BenchFault, Pass, StepAnswer, UnclosedBench};
+pub use choosing::{choose, yields};
+pub use phase::Phase;
 pub use recorded::Recorded;
 pub use run::{Report, RunFault, run_threads};
 pub use starting::SpawnRefused;
-pub use worker::Gate;
+pub use worker::{End, Gate};

@@ -38,8 +38,7 @@ returns-clause-ok g c =
 -- the lines of those before it are there
 pub returns-in_err-is_stuck-clause-memory : goal.returns-in_err-is_stuck-clause-memory
 returns-in_err-is_stuck-clause-memory g c = λ k.
-    let inside : c.loop-event.event-index < length c.args.events.now = omega arith in
-    lines_stand c.args.trace c.args.given c.args.net.now c.loop-event.net c.args.events.now c.loop-event.event-index (sink g.K.Sink c.args.out.now) (sink g.K.Sink c.loop-event.out) c.loop-event.invariant.goes (sink g.K.Sink c.journal_next.new.out) (Exec 0) inside (ap (sink g.K.Sink) (c.in_err-is_stuck.ensures.memory (handed _ _ _ c.from_residual.ensures.1 k)))
+    lines_stand c.args.trace c.args.given c.args.net.now c.loop-event.net c.args.events.now c.loop-event.event-index (sink g.K.Sink c.args.out.now) (sink g.K.Sink c.loop-event.out) c.loop-event.invariant.goes (sink g.K.Sink c.journal_next.new.out) (ap (sink g.K.Sink) (c.in_err-is_stuck.ensures.memory (handed _ _ _ c.from_residual.ensures.1 k)))
 
 -- and the next one was begun
 pub returns-in_err-is_stuck-clause-write : goal.returns-in_err-is_stuck-clause-write

@@ -1,4 +1,0 @@
-pub mod Phases
-pub mod Chosen
-pub mod Legal
-pub mod Laws
