@@ -16,7 +16,7 @@ _jsoncrdt() {
         print) options='-h --help' ;;
         run) options='--trace -h --help' ;;
         view) options='--at -h --help' ;;
-        journal) options='--trace -h --help' ;;
+        journal) options='--trace --effects -h --help' ;;
         debug) options='-h --help' ;;
         threads) options='--limit -h --help' ;;
         weave) options='--seed --limit -h --help' ;;

@@ -15,16 +15,18 @@ import signal
 import subprocess
 import sys
 import tempfile
+import threading
 import time
 
 HERE = os.path.dirname(os.path.abspath(__file__))
 sys.path.insert(0, os.path.join(os.path.dirname(HERE), "python"))
 
 from classes import class_of
+from jsoncrdt import choosing, serving
 from jsoncrdt.oracle.program import command_line
 from jsoncrdt.oracle.streams import READ_OR_WRITE_FAILED, reason_of, stop
 
-STUCK = 3
+REFUSED, STUCK = 1, 3
 SECONDS, MOST_BYTES = 10, 1 << 26
 # No document of a scenario is as deep as this, in frames of Python.
 MOST_FRAMES = 10_000
@@ -338,10 +340,10 @@ def effects_in(lines):
 
 
 def effects_fault(journal, status, ended):
-    """What is wrong with the effects that an adapter wrote, or none. The journal has those of the rules."""
+    """What is wrong with the effects that an adapter wrote, or none. The journal's lines have those of the rules."""
     if ended.fault or ended.status not in (0, status):
         return why_dead(ended)
-    want = effects_in(journal.splitlines())
+    want = effects_in(journal)
     try:
         got = effects_in(lines_of(ended.output, ended.status == STUCK))
     except NoJson as error:
@@ -357,17 +359,59 @@ def effects_fault(journal, status, ended):
     return None if same else f"{len(want)} events have effects, and it wrote {len(got)} lines with some"
 
 
+# ---- what the rules give
+
+OF_THREAD, BEGINNING, DECODER = threading.local(), threading.Lock(), json.JSONDecoder()
+
+
+def rules():
+    """What answers for the rules in this thread: a process of the program's `serve` for all that the thread asks; where
+    the program has none yet, or isn't there, the rules in Python here."""
+    if not hasattr(OF_THREAD, "answering"):
+        with BEGINNING:  # so that the program is looked at once
+            OF_THREAD.answering = serving.answering(choosing.program()) or serving.Here()
+    return OF_THREAD.answering
+
+
+def bring(text):
+    """Brings a scenario: what answers requests about it, and its counts or why it is refused."""
+    try:
+        return rules(), rules().bring(text)
+    except serving.Lost as lost:
+        return stop(f"{lost}, and gave no answer", READ_OR_WRITE_FAILED)
+
+
+def lines_in(answering, request):
+    """The lines in the list that answers a request, each as it is written."""
+    answer, at, lines = answering.answer(request.encode()).decode(), 1, []
+    while answer[at - 1:at + 1] != "[]" and at < len(answer):
+        end = DECODER.raw_decode(answer, at)[1]
+        lines.append(answer[at:end].encode() + b"\n")
+        at = end + 1
+    return lines
+
+
+def journal_of(text, *flags):
+    """The lines of the journal of a scenario that isn't refused."""
+    return lines_in(bring(text)[0], " ".join(["journal", *flags]))
+
+
 def told_of(text, is_journal):
     """What an adapter is given for a scenario, the text itself or its journal, and what `view` tells of it with the
-    status. A replica that the journal doesn't name isn't asked for."""
-    (view, status), given = by_rules(["view"], text), text
+    status. A replica that the journal doesn't name isn't asked for. Where a given event is stuck there is no
+    document."""
+    answering, counts = bring(text)
+    if "refused" in counts:
+        return text, serving.line_of_refusal(counts["refused"]).encode() + b"\n", REFUSED
+    is_stuck = "stuck" in counts or "stuck" in answering.ask("goto end")
+    view = [] if "stuck" in counts else lines_in(answering, "view")
+    given = text
     if is_journal:
-        given = by_rules(["journal"], text)[0]
-        events = map(json.loads, given.splitlines())
+        lines = lines_in(answering, "journal")
+        given, events = b"".join(lines), map(json.loads, lines)
         named = {event.get(member) for event in events for member in ("replica", "from")}
-        lines = view.splitlines(keepends=True)
-        view = b"".join(line for line in lines if line[:1] != b"{" or json.loads(line)["name"] in named)
-    return given, view, status
+        view = [line for line in view if json.loads(line)["name"] in named]
+    return given, b"".join(view), STUCK * is_stuck
 
 
 @functools.cache

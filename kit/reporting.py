@@ -1,5 +1,5 @@
-"""What a campaign tells: its classes, the scenarios that it kept, and the rules and refusals that it met, as text and as
-a page; and the folders of what it kept, in the form of those of the kit."""
+"""What a campaign tells: its classes, the scenarios that it kept, and the rules and refusals that it met, as text and
+as a page; and the folders of what it kept, in the form of those of the kit."""
 
 import html
 import os

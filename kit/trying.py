@@ -10,13 +10,16 @@ import os
 import random
 import sys
 
-from judging import HERE, MOST_FRAMES, STUCK, Ended, class_of_fault, run_adapter, told_of, view_fault
+from judging import (HERE, MOST_FRAMES, STUCK, Ended, bring, class_of_fault, lines_in, rules, run_adapter, told_of,
+                     view_fault)
+from jsoncrdt import choosing
 from jsoncrdt.oracle.grammar import read
 from jsoncrdt.oracle.program import made
 from jsoncrdt.oracle.rules import GivenStuck, Stuck, change, start
 from jsoncrdt.oracle.texts import REFUSALS, Texts
 from jsoncrdt.oracle.view import line_of
 from jsoncrdt.oracle.weave import woven
+from jsoncrdt.serving import Here
 from weaving import MOST_EVENTS, Maker, Writer, loaded, parts_of, renamed, shrink
 
 # Of 20 cases one after another 12 are `woven`, random scripts with the schedules of seeds, and 8 are `bent`, such a
@@ -120,26 +123,49 @@ def take(events, _, draw):
 
 
 def by_rules(scenario):
-    """The lines of `view`, the status, and how often each rule was used and each refusal met."""
+    """The lines of `view`, the status, and how often each rule was used by an event of the schedule, and each refusal
+    met. In this process that isn't asked through `serve`: to write what happened and read it again would take twice as
+    long as to execute it."""
+    return by_rules_here(scenario) if isinstance(rules(), Here) else by_program(printed(scenario))
+
+
+def by_program(text):
+    answering, counts = bring(text)
+    if "stuck" in counts:
+        return b"", STUCK, collections.Counter(["44 GivenStuck", name_of(counts["stuck"])])
+    journal = answering.ask(f"journal --trace 0 {counts['events']}")
+    stuck = [line for line in journal[-1:] if "stuck" in line]
+    met = collections.Counter(rule for line in journal[:len(journal) - len(stuck)] for _, rule in line["rules"])
+    met.update(map(name_of, stuck))
+    view = lines_in(answering, f"view --at {len(journal) - len(stuck)}")
+    return b"".join(view), STUCK * len(stuck), met
+
+
+def name_of(line):
+    """What refused the event of a journal's line."""
+    return f"{line['stuck']} {line['cause']}"
+
+
+def by_rules_here(scenario):
     met, texts, count = collections.Counter(), Texts(scenario.names), len(scenario.schedule)
     try:
         network = start(scenario)
     except GivenStuck as given:
-        met.update(["44 GivenStuck", name_of(given.stuck)])
-        return texts.given_stuck(given), STUCK, met
+        met.update(["44 GivenStuck", refusal_of(given.stuck)])
+        return b"", STUCK, met
     for number, event in enumerate(scenario.schedule):
         trace = []
         try:
             change(network, event, trace)
         except Stuck as stuck:
-            met[name_of(stuck)] += 1
+            met[refusal_of(stuck)] += 1
             network, count = made(scenario, scenario.schedule[:number])[0], number
             break
         met.update(rule for _, rule in trace)
     return b"".join(line_of(texts, replica) for replica in network), STUCK * (count < len(scenario.schedule)), met
 
 
-def name_of(stuck):
+def refusal_of(stuck):
     return f"{stuck.number} {REFUSALS[stuck.number]}"
 
 
@@ -163,8 +189,7 @@ def ended_of(adapter, given):
 
 def judged(text, adapter):
     """The class of the difference, what is wrong, where something is, and the rules and refusals that were met."""
-    scenario, _ = read(text)
-    view, status, met = by_rules(scenario)
+    view, status, met = by_rules(read(text)[0])
     given = text
     if adapter.is_journal:
         given, view, status = told_of(text, True)
@@ -174,7 +199,10 @@ def judged(text, adapter):
 
 
 def text_of(number):
-    scenario = scenario_of(number)
+    return printed(scenario_of(number))
+
+
+def printed(scenario):
     return Texts(scenario.names).scenario(scenario)
 
 
@@ -183,10 +211,9 @@ def try_cases(numbers, adapter):
     sys.setrecursionlimit(MOST_FRAMES)
     rows, adapter = [], Adapter(*adapter)
     for number in numbers:
-        text = text_of(number)
-        difference, fault, met = judged(text, adapter)
-        events = len(read(text)[0].schedule)
-        rows.append(Row(number, kind_of(number), difference, fault, events, dict(met)))
+        scenario = scenario_of(number)
+        difference, fault, met = judged(printed(scenario), adapter)
+        rows.append(Row(number, kind_of(number), difference, fault, len(scenario.schedule), dict(met)))
     return rows
 
 
@@ -198,7 +225,7 @@ class Shrinking(shrink.Shrinking):
         super().__init__(parts_of(scenario_of(number)), None)
 
     def status_of(self, text):
-        return by_rules(read(text.encode())[0])[1]
+        return told_of(text.encode(), False)[2]
 
     def is_found(self, text):
         return judged(text.encode(), self.adapter)[0] == self.difference
@@ -216,10 +243,11 @@ def shrunk(number, difference, adapter):
 
 @functools.cache
 def sources():
-    """A sum of what decides on the results: the rules, the making of scenarios, and how adapters are judged."""
+    """A sum of what decides on the results: the rules, the program that is asked for them, the making of scenarios, and
+    how adapters are judged."""
     root = os.path.dirname(HERE)
     files = [*glob.glob(f"{root}/oracle/*"), *glob.glob(f"{HERE}/*.py"), f"{root}/tools/shrink",
-             f"{root}/tools/asking.py"]
+             f"{root}/tools/asking.py", f"{root}/python/jsoncrdt/serving.py", choosing.program() or ""]
     found = hashlib.sha256()
     for path in sorted(filter(os.path.isfile, files)):
         with open(path, "rb") as file:

@@ -24,9 +24,10 @@ JSON_NUMBER = re.compile(rb"-?(0|[1-9][0-9]*)(\.[0-9]+)?([eE][+-]?[0-9]+)?")
 NUMBER_RUN = re.compile(rb"[0-9-][0-9A-Za-z_+.-]*")
 NAME_RUN = re.compile(rb"[A-Za-z_][0-9A-Za-z_]*")
 UNICODE = re.compile(rb"\\u([0-9A-Fa-f]{4})")
+BLANKS = re.compile(rb"[ \t\r\n]+")
 LONGEST = {NAME: 255, NUMBER: 65_535, STRING: 65_535}
 # Most tokens, with the blanks before them, at once: a name, a string without escapes, digits, a sign. `token` has all.
-PLAIN = re.compile(rb"[ \t\r\n]*(?:([A-Za-z_][0-9A-Za-z_]{0,254}(?![0-9A-Za-z_]))" rb'|("[^"\\\x00-\x1f]{0,65535}")'
+PLAIN = re.compile(rb"[ \t\r\n]*+(?:([A-Za-z_][0-9A-Za-z_]{0,254}(?![0-9A-Za-z_]))" rb'|("[^"\\\x00-\x1f]{0,65535}")'
                    rb"|((?:0|[1-9][0-9]{0,9})(?![0-9A-Za-z_+.-]))" rb"|(:=|[.(){}\[\],;=]))")
 PLAIN_KINDS = (None, NAME, STRING, NUMBER, SIGN)
 
@@ -96,8 +97,8 @@ def tokens(text):
             group, at = plain.lastindex, plain.end()
             found.append((PLAIN_KINDS[group], plain[group], plain.start(group)))
             continue
-        if text[at] in b" \t\r\n":
-            at += 1
+        if blanks := BLANKS.match(text, at):
+            at = blanks.end()
             continue
         kind, end = token(text, at)
         found.append((kind, text[at:end], at))

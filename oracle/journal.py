@@ -1,4 +1,5 @@
-"""The journal of a scenario: JSON Lines, an object for each event that is made, and last one for an event that is stuck.
+"""The journal of a scenario: JSON Lines, an object for each event that is made, and last one for an event that is
+stuck.
 
 Members stand by their names, texts are those of dumps. Each object has `event`, the event's text; `kind`, its word;
 `number`, from 1; `replica`, its name. Given events come first and have `"given":true` and numbers of their own.
@@ -15,6 +16,8 @@ and that the replica has not applied.
 """
 
 import copy
+import functools
+import itertools
 
 from .effects import Effects
 from .rules import Network, Stuck, change
@@ -81,7 +84,7 @@ class Journal:
         """The line of an event that was made."""
         members = {**self.common(number, event, given), **self.what(event, before, replica)}
         if self.traced:
-            members[b"rules"] = array(array([b"%d" % depth, string(rule.encode())]) for depth, rule in trace)
+            members[b"rules"] = rules_of(trace)
         return object_of(members.items()) + b"\n"
 
     def stuck(self, number, event, network, stuck, given):
@@ -98,6 +101,16 @@ class Journal:
         elif stuck.number == 36:
             members[b"missing"] = self.texts.identifiers(replica.received[identifier].deps - replica.applied)
         return object_of(members.items()) + b"\n"
+
+
+@functools.cache
+def rule_at(depth, rule):
+    return array([b"%d" % depth, string(rule.encode())])
+
+
+def rules_of(trace):
+    """The rules of an event, each with its depth."""
+    return array(itertools.starmap(rule_at, trace))
 
 
 class Before(frozenset):

@@ -37,7 +37,6 @@ it says besides why a text is refused or an event stuck.
   journal [--trace] [--effects] FILE
                         prints a line of JSON for each event, with its operation in full, and for the
                         one that is stuck with why; with --effects what each changed at which places
-                        (here only: the proved program has no --effects yet)
   weave [--seed N] [--limit N] FILE
                         prints the scenario with a schedule drawn from the seed (0 unless it is said):
                         each replica chooses its events as its thread does, up to the limit (10,000);

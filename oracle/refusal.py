@@ -175,7 +175,8 @@ def quoted(spelling):
 
 
 def spelling_at(text, offset):
-    """The token at the offset, or what looks like a number, a name, a string or an escape; else a character or a byte."""
+    """The token at the offset, or what looks like a number, a name, a string or an escape; else a character or a
+    byte."""
     try:
         return text[offset:token(text, offset)[1]]
     except Fault:

@@ -112,11 +112,12 @@ def expression_of(line, count, name, names):
 
 
 def evaluation(line, words, names):
+    """A request that evaluates an expression at a replica."""
     found, rest = taken_options(words[1:], (AT,))
     if not rest:
         raise Refusal(BAD)
     count = len(words) - len(rest) + 1
-    return ("eval", found.get(AT), *expression_of(line, count, rest[0], names))
+    return (words[0].decode(), found.get(AT), *expression_of(line, count, rest[0], names))
 
 
 def breakpoint_of(line, words, names):
@@ -168,6 +169,8 @@ def read_request(line, names, version):
     """What a line asks of a scenario with these replicas. Where it is refused Refusal is raised."""
     words = words_of(line)
     word, rest = words[0].decode() if words else "", words[1:]
+    if word == "view" and len(taken_options(rest, NAMED[word])[1]) > 1:
+        return evaluation(without_end(line), words, names)
     if word in NAMED:
         return shown(word, rest, names)
     if word == "event":

@@ -8,7 +8,7 @@ import copy
 from .debugger import Debugger, Failed, Refusal
 from .effects import Since
 from .grammar import MOST_BYTES, NAME_RUN, NUMBER_RUN, Reader, read, string_end
-from .journal import Before, Journal, lines_of
+from .journal import Before, Journal, lines_of, rules_of
 from .lines import BAD
 from .requests import AnyName, NotRead, TooMany, read_request
 from .rules import Stuck, step
@@ -232,8 +232,17 @@ class Served(Debugger):
         network = self.network_at(position)
         return shows(network[p]) if p is not None else array(map(shows, network))
 
-    def on_view(self, position, p):
-        return self.each(lambda replica: line_of(self.texts, replica).rstrip(b"\n"), position, p)
+    def on_view(self, position, p, expression=None):
+        if expression:
+            return self.view_of_place(self.network_at(position), p, expression)
+        return self.each(self.view, position, p)
+
+    def view(self, replica, *place):
+        return line_of(self.texts, replica, *place).rstrip(b"\n")
+
+    def view_of_place(self, network, p, expression):
+        kind, *bound = self.evaluated(p, expression, network)
+        return self.view(network[p], *bound) if kind == "cursor" else self.texts.bound((kind, *bound))
 
     def on_state(self, position, p):
         return self.each(lambda replica: self.texts.dump(replica).rstrip(b"\n"), position, p)
@@ -289,9 +298,8 @@ class Served(Debugger):
     def on_trace(self):
         if not self.position:
             return object_with(start=TRUE)
-        rules = array(array([number(depth), string(rule.encode())]) for depth, rule in self.here.trace)
         event = self.texts.event(self.event_at(self.position))
-        return object_with(event=string(event), number=number(self.position), rules=rules)
+        return object_with(event=string(event), number=number(self.position), rules=rules_of(self.here.trace))
 
     def on_journal(self, flags, first=None, last=None):
         if first is None:

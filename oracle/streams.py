@@ -1,5 +1,5 @@
-"""What the command lines here, in tools/ and in tests/ have in common: streams that may be closed or full, arguments that
-may be wrong, and one line on standard error for each fault."""
+"""What the command lines here, in tools/ and in tests/ have in common: streams that may be closed or full, arguments
+that may be wrong, and one line on standard error for each fault."""
 
 import argparse
 import os

@@ -6,7 +6,7 @@ the key's presence set goes on there into the map or the list, or makes it. One 
 shown all, under the name `!conflict`; a name that begins with `!` has one `!` more, so that no document looks so.
 """
 
-from .rules import DOC, HEAD, LIST, MAP, REGISTER, TAIL, element_key
+from .rules import DOC, HEAD, LIST, MAP, REGISTER, TAIL, Stuck, below, element_key
 from .texts import array, string
 
 EMPTY = {"map": MAP, "list": LIST}
@@ -79,9 +79,17 @@ class View:
         return members([(b"!conflict", members(parts))])
 
 
-def line_of(texts, replica):
-    """The line of a replica: its document, where it has one, and its name."""
-    shown = [(b"name", string(texts.names[replica.number]))]
-    if replica.tree.presences.get(DOC):
-        shown.insert(0, (b"doc", View(texts, replica).place(replica.tree, (), DOC)))
+def context_at(tree, path):
+    """The context at a path, or none."""
+    try:
+        return below(tree, path, "", 0, [])[0]
+    except Stuck:
+        return None
+
+
+def line_of(texts, replica, path=(), key=DOC):
+    """The line of a replica: its document, or what is at another key of it, where something is there, and its name."""
+    shown, context = [(b"name", string(texts.names[replica.number]))], context_at(replica.tree, path)
+    if context and context.presences.get(key):
+        shown.insert(0, (b"doc", View(texts, replica).place(context, path, key)))
     return members(shown) + b"\n"

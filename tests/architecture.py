@@ -16,7 +16,7 @@ from jsoncrdt.oracle.lines import RULES
 OUTSIDE = re.compile(r"\bjc_io\b|\b(?:Sink|Source|ToWrite|FromRead)\b|\bstd::(?:io|fs|net|os|process|env)\b"
                      r"|\be?print(?:ln)?!")
 HANDED_ON = re.compile(r"^pub use jc_io::\{[^}]*\};$", re.MULTILINE)
-WRITING = ("jc_io", "jc_session", "jc_program", "jc_app")
+WRITING = ("jc_io", "jc_out", "jc_session", "jc_program", "jc_app")
 # The streams and files of the machine.
 MACHINE = re.compile(r"\bstd::fs\b|\b(?:Stdin|Stdout|Stderr|File)\b|\b(?:stdin|stdout|stderr)\(")
 # What waits, or starts what is waited for.
@@ -105,7 +105,7 @@ def tests_apart(texts):
 
 
 def writes_nothing(texts):
-    """No library but the four has to do with what bytes come from or go to; jc_rules hands it on. Of the four, jc_app
+    """No library but the five has to do with what bytes come from or go to; jc_rules hands it on. Of the five, jc_app
     alone knows the streams and files of the machine."""
     crates = crates_in(texts)
     names = [name for name in libraries(texts) if name not in WRITING]

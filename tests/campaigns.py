@@ -12,7 +12,7 @@ import sys
 import tempfile
 import time
 
-from cases import IN_TEST, NotTried, expect, expect_same, place, run, stored, told_errors
+from cases import IN_PYTHON, IN_TEST, NotTried, expect, expect_same, folder_of, place, run, stored, told_errors
 from kit import FILES
 from jsoncrdt.oracle.lines import RULES
 
@@ -42,7 +42,8 @@ def needs_dask():
 
 
 def finds_fault(programs):
-    """A planted fault is found; the first scenario of its class is made smaller, and is a folder as those of the kit."""
+    """A planted fault is found; the first scenario of its class is made smaller, and is a folder as those of the
+    kit."""
     with tempfile.TemporaryDirectory() as folder:
         ended = campaign(programs, folder, ["--workers", "1", "--cases", "60", *ENGINE, "unlinks"])
         output, found = ended.stdout.decode(), tables(folder)
@@ -86,6 +87,32 @@ def has_no_fault(programs):
         expect(refusals <= {20, *range(22, 37), 44} and len(refusals) >= 8, f"{refusals}")
         expect(len(met & {*RULES}) >= 45, f"{met}")
         expect(f"{len(met & {*RULES})} of {len(RULES)} rules met" in output, output)
+
+
+# A program that has `serve`, and notes that it was asked so.
+SERVED = '#!/bin/sh\n[ "$1" != serve ] || echo asked >>"$0.log"\nexec "{oracle}" "$@"\n'
+
+
+def asks_served(_):
+    """Where the program has `serve` it is asked for the rules, by one process for each worker, behind one that looks
+    whether it has it; and all is the same."""
+    some = ["kit/check", "--only", "figure-*", "--only", "refused-3[46]-*"]
+    commands = ([*some, "--ops", "--jobs", "2", "oracle/adapter", "--ops"],
+                [*some, "--effects", IN_PYTHON, "journal", "--effects", "-"],
+                ["kit/campaign", "--workers", "1", "--cases", "100", *ENGINE])
+    with folder_of({"served": SERVED.format(oracle=os.path.abspath(IN_PYTHON))}) as folder:
+        path, log = (os.path.join(folder, name) for name in ("served", "served.log"))
+        for words, most in zip(commands, (3, 2, 2)):
+            told = []
+            for program in (IN_PYTHON, path):
+                at = os.path.join(folder, os.path.basename(program))
+                of_campaign = words[0] == "kit/campaign"
+                ended = run([words[0], *["--folder", at + ".d"] * of_campaign, *words[1:]], program)
+                told.append((ended.returncode, ended.stdout, tables(at + ".d") if of_campaign else None))
+            expect(told[0] == told[1], f"{words}: {told}")
+            count = stored(log).count("\n")
+            expect(1 < count <= most, f"{words}: it was started {count} times")
+            os.remove(log)
 
 
 def goes_on(programs):
@@ -197,7 +224,8 @@ def outlives_worker(programs):
         expect(tables(there) == tables(here), f"{tables(there)}\n{tables(here)}")
 
 
-# Words behind --folder, the status, and what is told on standard error. FOLDER has results of the engine without a fault.
+# Words behind --folder, the status, and what is told on standard error. FOLDER has results of the engine without a
+# fault.
 WRONG = [
     (["--cases", "5", *ENGINE, "rising"], 2, "campaign: FOLDER/results.sqlite has results of another adapter: "
      "oracle/adapter:answer\n"),
@@ -220,7 +248,8 @@ def is_wrong(programs):
         for words, status, told in WRONG:
             ended = campaign(programs, folder, ["--workers", "1", *words])
             errors = told_errors(ended).replace(folder, "FOLDER")
-            expect(ended.returncode == status and errors.startswith(told) and errors.count("\n") == 1, f"{words} {ended}")
+            expect(ended.returncode == status and errors.startswith(told) and errors.count("\n") == 1,
+                   f"{words} {ended}")
         expect(tables(folder) == before and len(before["cases"]) == 5, f"{before}")
 
 
@@ -262,6 +291,7 @@ def has_no_scheduler(programs):
 def campaigns():
     yield "kit: a campaign finds a fault", finds_fault
     yield "kit: a campaign without a fault", has_no_fault
+    yield "kit: rules that are asked through serve", asks_served
     yield "kit: a campaign goes on", goes_on
     yield "kit: a campaign is interrupted", is_interrupted
     yield "kit: a campaign on two workers", is_same_on_two

@@ -37,7 +37,8 @@ class Programs:
 
 
 def run(words, program, text="", shell=False, path=None):
-    """How the command ends that these words are, or this line of a shell; where a path is given, folders on it come first."""
+    """How the command ends that these words are, or this line of a shell; where a path is given, folders on it come
+    first."""
     environment = {**os.environ, "JSONCRDT": os.path.abspath(program), IN_TEST: "yes"}
     if path:
         environment["PATH"] = f"{path}:{environment['PATH']}"

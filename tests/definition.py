@@ -1,5 +1,5 @@
-"""The command line as the program defines it: commands and options by crates/jc_cli/src/definition.rt, texts and statuses
-by help.rt there, and the flags that its parser adds by the help that crates/jc_rows shows."""
+"""The command line as the program defines it: commands and options by crates/jc_cli/src/definition.rt, texts and
+statuses by help.rt there, and the flags that its parser adds by the help that crates/jc_rows shows."""
 
 import re
 

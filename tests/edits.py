@@ -13,17 +13,24 @@ NAME = re.compile(r"[A-Za-z0-9_-][A-Za-z0-9_.-]*\.edit")
 FOLDERS = ("must-fail", "more-edits")
 
 
+def is_of_laws(folder):
+    """Whether a crate has laws alone: it has no bodies, and its edits are of definitions."""
+    sources = glob.glob(os.path.join(folder, "src/**/*.rt"), recursive=True)
+    return all(re.fullmatch(r"(?:lib|\w*laws)\.rt", os.path.basename(path)) for path in sources)
+
+
 def edited(text, folder):
     """The files of a crate that an edit changes, with their texts then. Each pair of lines applies to what those before
     it made."""
     before, after, path, old = {}, {}, None, None
+    sources = r"src/[\w/]+\.rt" + (r"|specs/[\w/]+\.antt" if is_of_laws(folder) else "")
     for line in filter(None, text.split("\n")):
         kind, _, rest = line.partition(" ")
         follows = {"file:": old is None, "old:": path and old is None, "new:": old is not None}
         expect(follows.get(kind), f"`{line}` stands where it can't")
         if kind == "file:":
             path = rest
-            expect(re.fullmatch(r"src/[\w/]+\.rt", path), f"{path} is no file of sources")
+            expect(re.fullmatch(sources, path), f"{path} is no file of sources")
             expect(os.path.isfile(os.path.join(folder, path)), f"there is no file {path}")
             before.setdefault(path, stored(os.path.join(folder, path)))
             after.setdefault(path, before[path])
@@ -53,7 +60,7 @@ def edits_case(crate):
     return f"edits: of {crate}", tried
 
 
-FILES = {"lib.rt": "let a = 1;\nlet b = 1;\n", "more.rt": "c\n"}
+FILES = {"src/lib.rt": "let a = 1;\nlet b = 1;\n", "src/more.rt": "c\n"}
 # An edit of these files, and what is wrong with it, or nothing.
 ROWS = (
     ("file: src/lib.rt\nold: a = 1\nnew: a = 2\n", ""),
@@ -78,12 +85,22 @@ ROWS = (
 )
 
 
-def fault_case(text, fault):
+# The same of a crate of laws alone.
+OF_LAWS = {"src/lib.rt": "let a = 1;\n", "src/laws.rt": "", "specs/Lib.antt": "a\n"}
+ROWS_OF_LAWS = (
+    ("file: specs/Lib.antt\nold: a\nnew: b\n", ""),
+    ("file: src/lib.rt\nold: a = 1\nnew: a = 2\n", ""),
+    ("file: proofs/Lib.antt\nold: a\nnew: b\n", "proofs/Lib.antt is no file of sources"),
+)
+
+
+def fault_case(files, text, fault):
     def tried(_):
         with tempfile.TemporaryDirectory() as folder:
-            os.mkdir(os.path.join(folder, "src"))
-            for name, content in FILES.items():
-                with open(os.path.join(folder, "src", name), "w", encoding="utf-8") as file:
+            for name, content in files.items():
+                path = os.path.join(folder, name)
+                os.makedirs(os.path.dirname(path), exist_ok=True)
+                with open(path, "w", encoding="utf-8") as file:
                     file.write(content)
             try:
                 edited(text, folder)
@@ -104,10 +121,9 @@ def gate_case(crate):
     """The gate tries an edit of the library. One of laws alone has no bodies."""
 
     def tried(_):
-        sources = glob.glob(f"crates/{crate}/src/**/*.rt", recursive=True)
-        expect(sources, f"{crate} has no sources")
-        is_of_laws = all(re.fullmatch(r"(?:lib|\w*laws)\.rt", os.path.basename(path)) for path in sources)
-        expect(is_of_laws or glob.glob(f"crates/{crate}/must-fail/*.edit"), f"{crate} has no edit in the gate")
+        folder = f"crates/{crate}"
+        expect(glob.glob(f"{folder}/src/**/*.rt", recursive=True), f"{crate} has no sources")
+        expect(is_of_laws(folder) or glob.glob(f"{folder}/must-fail/*.edit"), f"{crate} has no edit in the gate")
 
     return f"edits: the gate tries one of {crate}", tried
 
@@ -117,4 +133,6 @@ def edits():
     yield from map(gate_case, libraries())
     yield from map(edits_case, sorted(glob.glob("crates/*")))
     for row in ROWS:
-        yield fault_case(*row)
+        yield fault_case(FILES, *row)
+    for row in ROWS_OF_LAWS:
+        yield fault_case(OF_LAWS, *row)

@@ -33,7 +33,8 @@ LOOKED_FOR = [
     ("--command 'grep -q A' --seeds 5 -", APART, 0, "explore: grep -q A: it holds of seed 0\n"),
     ("--command 'exit 1' --seeds 2 -", APART, 1, "explore: exit 1: it holds of none of 2 seeds\n"),
     ("--until stuck --seeds 9 -", NEVER, 0, "explore: in each of 1 seeds q is stuck at doc.get(\"l\").idx(1).delete: "
-     "what it needs isn't there yet; give it as the past in a block given { .. }, or put more yields before it, at which "
+     "what it needs isn't there yet; give it as the past in a block given { .. }, or put more yields before it, at "
+     "which "
      "it may hear of it\nexplore: stuck: it holds of seed 0\n"),
     ("--seeds 9 -", NEVER, 0, "explore: in each of 9 seeds q is stuck at doc.get(\"l\").idx(1).delete: .."),
     ("--seeds 3 examples/to-do.jsoncrdt", "", 0, "explore: in each of 3 seeds q is stuck at doc.get(\"todo\").."),

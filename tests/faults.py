@@ -1,12 +1,13 @@
-"""Commands that end with a fault: wrong arguments, files that can't be read, streams that fail, a program that is none. Each
-is told in one line on standard error, with the status that the program has for it."""
+"""Commands that end with a fault: wrong arguments, files that can't be read, streams that fail, a program that is none.
+Each is told in one line on standard error, with the status that the program has for it."""
 
 from cases import expect, folder_of, run, told_errors
 
 FIRST = "examples/first.jsoncrdt"
 ONE = "--only first-assignment "
 KIT_FIRST = "kit/first-assignment/scenario.jsoncrdt"
-DEEP = "jsoncrdt 1 replica a { let x = doc" + '.get("k")' * 250 + "; x" + '.get("k")' * 250 + " := 1 } schedule { a.exec; a.exec }"
+BELOW = '.get("k")' * 250
+DEEP = f"jsoncrdt 1 replica a {{ let x = doc{BELOW}; x{BELOW} := 1 }} schedule {{ a.exec; a.exec }}"
 
 # A line of a shell, its status, and a part of what it tells on standard error, or nothing where it tells nothing.
 ROWS = [
@@ -80,7 +81,8 @@ ROWS = [
     ("kit/make --check " + ONE + "--program /no/such", 2, "make: /no/such: "),
     ("kit/make --check " + ONE + "--program /bin/true", 1, "make: /bin/true view - prints otherwise for "),
     ("kit/table x", 2, "table: "),
-    # The quotes keep the word out of the case's own name: a case that the word selects would run itself again and again.
+    # The quotes keep the word out of the case's own name: a case that the word selects would run itself again and
+    # again.
     ("./test no-such-''word", 2, "test: no case has no-such-word in its name"),
     ("./test --nothing", 2, "test: "),
     ("dev/bench nothing", 2, "bench: nothing is no case"),
@@ -127,7 +129,8 @@ ROWS = [
     # No fault: 500 maps in one another, and a letter that the terminal hasn't.
     (f"echo '{DEEP}' | tools/tree - a >/dev/null", 0, ""),
     (f"echo '{DEEP}' | tools/tree --deleted - a >/dev/null", 0, ""),
-    ("""echo 'jsoncrdt 1 replica a { doc := "\u00e9" } schedule { a.exec }' | PYTHONIOENCODING=ascii tools/lanes -""", 0, ""),
+    ("""echo 'jsoncrdt 1 replica a { doc := "\u00e9" } schedule { a.exec }' | PYTHONIOENCODING=ascii tools/lanes -""",
+     0, ""),
 ]
 
 # Commands whose output is tried full and closed, and what they tell.

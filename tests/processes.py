@@ -1,7 +1,7 @@
 """The program as a process: its own exit code, which of its streams has which line, and streams that fail.
 
-Each row is tried by the program that is there: the built one, and then by the launcher too, or the rules in Python. These
-say a line of their own first, and more of a fault, and have no threads.
+Each row is tried by the program that is there: the built one, and then by the launcher too, or the rules in Python.
+These say a line of their own first, and more of a fault, and have no threads.
 """
 
 import collections
@@ -19,12 +19,15 @@ GIVEN_STUCK = "refused 44 GivenStuck at 2\nstuck 31 AtYield a.exec\n"
 RECORDED = 'jsoncrdt 1\nreplica a {\n  doc.get("a") := 1;\n}\nschedule {\n  a.exec;\n}\n'
 # The first command is executed by a given event, the second one by the thread.
 BEGUN = 'jsoncrdt 2 replica a { doc.get("a") := 1; doc.get("a") := 2 } given {a.exec} schedule {a.send}'
-RECORDED_TWO = ('jsoncrdt 2\nreplica a {\n  doc.get("a") := 1;\n  doc.get("a") := 2;\n}\ngiven {\n  a.exec;\n}\nschedule {\n'
+RECORDED_TWO = ('jsoncrdt 2\nreplica a {\n  doc.get("a") := 1;\n  doc.get("a") := 2;\n}\ngiven {\n'
+                '  a.exec;\n}\nschedule {\n'
                 '  a.exec;\n}\n')
-JOURNAL = ('{"command":"doc.get(\\"a\\") := 1","event":"a.exec","kind":"exec","number":1,"op":{"cursor":["mapT(doc)","\\"a\\""],'
+JOURNAL = ('{"command":"doc.get(\\"a\\") := 1",'
+           '"event":"a.exec","kind":"exec","number":1,"op":{"cursor":["mapT(doc)","\\"a\\""],'
            '"deps":{},"id":"1@a","mutation":"assign","value":{"n":"1"}},"replica":"a"}\n')
 JOURNAL_STUCK = ('{"event":"a.send","given":true,"kind":"send","new":[],"number":1,"replica":"a"}\n'
-                 '{"cause":"AtYield","event":"a.exec","given":true,"kind":"exec","number":2,"replica":"a","stuck":31}\n')
+                 '{"cause":"AtYield","event":"a.exec","given":true,"kind":"exec","number":2,"replica":"a",'
+                 '"stuck":31}\n')
 UNBEGUN = "jsoncrdt 1\nreplica a {\n  let s = doc.keys;\n}\nschedule {\n}\n"
 # The most events that there may be, and one replica that sends at each.
 FULL = "jsoncrdt 1 replica a {yield} schedule {" + "a.send;" * 100_000 + "}"
@@ -34,7 +37,8 @@ MANY_REPLICAS = "jsoncrdt 1" + "".join(f" replica r{n} {{doc := 1}}" for n in ra
 
 
 def most_bytes(front, end):
-    """A text that is made where it is used: 67,108,864 bytes of lines, which begin so and are else empty, and an end."""
+    """A text that is made where it is used: 67,108,864 bytes of lines, which begin so and are else empty, and an
+    end."""
     return lambda: front + ((" " * 4_095 + "\n") * 16_384)[len(front):] + end
 
 

@@ -28,6 +28,7 @@ from cases import IN_PYTHON, IN_TEST, NotTried, Programs, Wrong, expect, expect_
 from edits import edits
 from exploring import exploring
 from faults import faults
+from grammars import grammars
 from jsoncrdt.oracle.grammar import EVENTS, RESERVED
 from journals import journals
 from kit import kit
@@ -56,8 +57,8 @@ Python. It proves nothing; the gate, rt ci, does that. The last line is `N passe
 one failed. What needs the built program, or a command that isn't there, is skipped, and counted on the line before."""
 WORDS = """\
 With words, what has one of them in its name: examples, README, docs, pages, tools, pictures, faults, launcher,
-messages, edits, more-edits, gate, architecture, process, arguments, editors, debug, kit, package, serve, oracle, or a
-part of a file's name or of a command."""
+messages, edits, more-edits, gate, grammar, architecture, process, arguments, editors, debug, kit, package, serve, oracle,
+or a part of a file's name or of a command."""
 
 
 def block_case(command):
@@ -94,7 +95,8 @@ def page_case(path):
         expect(not bare, f"blocks without a command begin at the lines {bare}")
         expect(not long, f"paragraphs of more than {MOST_OF_PARAGRAPH} lines begin at the lines {long}")
         count = stored(path).count("\n")
-        expect(path != "README.md" or count <= MOST_OF_README, f"it has {count} lines, and {MOST_OF_README} are the most")
+        expect(path != "README.md" or count <= MOST_OF_README,
+               f"it has {count} lines, and {MOST_OF_README} are the most")
 
     return f"pages: {path}", tried
 
@@ -235,7 +237,8 @@ def completed_case(words, offered):
     """What bash offers behind these words, of which the last may be a beginning."""
 
     def tried(programs):
-        script = '. completions/jsoncrdt.bash; COMP_WORDS=("$@"); COMP_CWORD=$(($# - 1)); _jsoncrdt; echo "${COMPREPLY[@]}"'
+        script = ('. completions/jsoncrdt.bash; COMP_WORDS=("$@"); COMP_CWORD=$(($# - 1)); _jsoncrdt; '
+                  'echo "${COMPREPLY[@]}"')
         told = run(["bash", "-c", script, "bash", *words], programs.program)
         expect_same(told.stdout.decode(), offered + "\n")
 
@@ -249,7 +252,8 @@ def is_defined(_):
 
 
 def names_commands(programs):
-    """The table of the command line has the commands that the help lists; view is newer, and threads is not in Python."""
+    """The table of the command line has the commands that the help lists; view is newer, and threads is not in
+    Python."""
     text = run([programs.program, "--help"], programs.program).stdout.decode()
     lacking = {c.name for c in command_line.COMMANDS if not re.search(rf"^ +{c.name}\b", text, re.MULTILINE)}
     missing = lacking - ({"view"} if programs.is_built and not programs.has_view else set())
@@ -307,7 +311,7 @@ def editors():
     yield completed_case(["jsoncrdt", "--explain", "r"], "run")
     yield completed_case(["jsoncrdt", "--unproved", "--explain", "view", "-"], "--at -h --help")
     yield completed_case(["jsoncrdt", "view", "-"], "--at -h --help")
-    yield completed_case(["jsoncrdt", "journal", "-"], "--trace -h --help")
+    yield completed_case(["jsoncrdt", "journal", "-"], "--trace --effects -h --help")
     yield completed_case(["jsoncrdt", "run", "examples/tw"], "examples/two-lists.jsoncrdt examples/two-types.jsoncrdt")
     yield "editors: tools/command_line.py and the sources of the program", is_defined
     yield "editors: tools/command_line.py and --help", names_commands
@@ -354,7 +358,8 @@ def main():
     parser = streams.Parser(prog="./test", description=ABOUT, epilog=WORDS)
     parser.add_argument("words", metavar="WORD", nargs="*", help="only what has one of these words in its name")
     parser.add_argument("--write", action="store_true",
-                        help="write what the tools print of each example to tests/expected, to be read before it is kept")
+                        help="write what the tools print of each example to tests/expected, to be read before it is "
+                             "kept")
     parser.add_argument("--built", action="store_true",
                         help="fail where the built program isn't there, or what it is made of is newer")
     asked, programs = parser.parse_args(), Programs()
@@ -364,7 +369,7 @@ def main():
     cases = [*examples(asked.write), *blocks(), *pages(), *tools(asked.write), *pictures_read_back(), *lanes(),
              *faults(), *scripts(), *edits(), *architecture(), *launching(), *messages(), *process(), *arguments(),
              *editors(), *terminal(), *kit(), *kit_options(), *exploring(), *campaigns(), *journals(), *run_pages(),
-             *package(), *serving(), *server_parts(), *servers()]
+             *package(), *serving(), *server_parts(), *servers(), *grammars()]
     cases = chosen_of(cases, asked.words)
     if IN_TEST in os.environ:
         streams.stop("a test runs no tests")

@@ -30,7 +30,8 @@ def launcher_case(has_rt, words, status, output, sentence):
     def tried(_):
         with folder_of({"rt": TELLING}) as folder:
             path = f"{folder}:/usr/bin:/bin" if has_rt else "/usr/bin:/bin"
-            told = subprocess.run(["./jsoncrdt", "--unproved", *words], input=b"step\n", capture_output=True, check=False,
+            told = subprocess.run(["./jsoncrdt", "--unproved", *words], input=b"step\n", capture_output=True,
+                                  check=False,
                                   env={**os.environ, "PATH": path})
         is_right = told.returncode == status and told.stdout.decode() == output and sentence in told.stderr.decode()
         expect(is_right, f"{told}")
@@ -58,7 +59,8 @@ def launcher():
     yield launcher_case(True, ["view", "--at", "3", "examples"], 4, "", "examples is a folder")
     yield launcher_case(True, ["run", first], 0, f"try --data scenario={first} -- run scenario\n", "nothing is proved")
     yield launcher_case(True, ["run", "--trace", first, stuck], 0,
-                        "01-first.jsoncrdt\n02-stuck.jsoncrdt\ntry --cases FOLDER -- run --trace -\n", "nothing is proved")
+                        "01-first.jsoncrdt\n02-stuck.jsoncrdt\ntry --cases FOLDER -- run --trace -\n",
+                        "nothing is proved")
     yield launcher_case(True, ["debug", first], 0, f"try --data scenario={first} -- debug scenario\nstep\n",
                         "nothing is proved")
     for status in range(6):

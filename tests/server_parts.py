@@ -13,7 +13,6 @@ from completing import completions
 from documents import Document, diagnostics
 from editing import FILL, GIVE, SYNC, WEAVE, code_actions, definition, formatting, give_before, lenses, symbols
 from hovers import hover
-from placed import one_schedule
 from places import Lines, Source, in_bytes
 from questions import Left
 from variables import Shown
@@ -111,16 +110,6 @@ TOKENS = [
     ('doc.get("a b")', 9, '"a b"'),
     ("x := 1", 2, ":="),
 ]
-# What is refused at an offset, and what of it is marked.
-FAULTS = [
-    ("replica a { # a note", 12, "#"),
-    ('doc := "x\ny', 7, '"x'),
-    ('doc := "\\x41"', 8, "\\x"),
-    ('doc := "\\ud83d"', 8, "\\ud83d"),
-    ("doc := 01", 7, "01"),
-    ("é", 0, "é"),
-    ("yield", 5, ""),
-]
 
 
 def has_tokens(_):
@@ -129,21 +118,17 @@ def has_tokens(_):
         token = source.token_at(0, offset)
         found = token and source.text[token.start:token.end].decode()
         expect(found == word, f"{text!r} {offset}: {found!r}, and not {word!r}")
-    for text, offset, word in FAULTS:
-        source = Source(in_bytes(text))
-        found = source.text[offset:source.end_of_fault(offset)].decode()
-        expect(found == word, f"{text!r} {offset}: {found!r}, and not {word!r}")
 
 
-def is_one_schedule(_):
-    source = Source(b"jsoncrdt 2 replica a { yield } given { a.send; a.done } schedule { a.exec; a.exec }")
-    before = "jsoncrdt 2 replica a { yield } "
-    for block, count, events in (
-            (None, None, "a.send; a.done; a.exec; a.exec"), (source.schedule, 1, "a.send; a.done; a.exec"),
-            (source.given, 1, "a.send"), (source.given, 0, "")):
-        text, position = one_schedule(source, block, count)
-        expect_same(text.decode(), f"{before}\nschedule {{{events}}}")
-        expect(position == (len(events.split(";")) if events else 0), f"{events}: {position}")
+def has_blocks_of_program(_):
+    """Where blocks, commands and events are, by their tokens alone, is what the program tells of a text that it doesn't
+    refuse."""
+    for path in glob.glob("examples/**/*.jsoncrdt", recursive=True):
+        document = document_of(stored(path))
+        found = [{"kind": block.word, "start": block.start, "end": block.end,
+                  **({"name": block.name} if block.name else {}),
+                  "items": [[item.start, item.end] for item in block.items]} for block in document.source.blocks]
+        expect(document.questions.ask("places") == found, f"{path}: {found}")
 
 
 # ---- what is said
@@ -166,12 +151,20 @@ def marked(text):
 
 WRONG = [
     ("jsoncrdt 1 replica a {}", []),
+    ("jsoncrdt 1 replica a { # a note", [(1, "#")]),
+    ('jsoncrdt 1 replica a { doc := "x', [(2, '"')]),
+    ('jsoncrdt 1 replica a { doc := "x\ny', [(1, "\n")]),
+    ('jsoncrdt 1 replica a { doc := "\\x41"', [(3, "\\")]),
+    ('jsoncrdt 1 replica a { doc := "\\ud83d"', [(4, "\\ud83d")]),
+    ("jsoncrdt 1 replica a { doc := 01", [(5, "01")]),
+    ("jsoncrdt 1 replica a { é", [(1, "é")]),
+    ("jsoncrdt 1 replica a { yield", [(8, "")]),
     ('jsoncrdt 1\nreplica a {\n  doc.get("😀") = 1\n}', [(7, "=")]),
     ("jsoncrdt 1 replica a { yield } schedule { a.recv(bc) }", [(18, "bc")]),
     ("jsoncrdt 1 replica a { doc := 1 } schedule { a.exec; a.exec }", [(30, "a.exec")]),
     ("jsoncrdt 1 replica a { yield } schedule { a.send; a.done; a.send }", [(30, "a.send")]),
     ("jsoncrdt 2 replica a { yield; } given { a.done } schedule { a.exec }", [(33, "a.done")]),
-    ('jsoncrdt 1 replica a { doc := "\ud800" }', [(13, "\ufffd")]),
+    ('jsoncrdt 1 replica a { doc := "\ud800" }', [(13, "\ufffd" * 3)]),
 ]
 
 
@@ -337,10 +330,10 @@ def is_marked_where_refused(document, diagnostic):
     no position, and none within a character."""
     start, end = offsets_of(document, diagnostic)
     expect(start <= end <= len(document.text), f"{diagnostic}")
-    refused = re.match(r"refused \d+ \w+ at (\d+)", document.placed.refusal or "")
-    begin = document.text[int(refused[1]):] if refused else b""
+    refused = document.refusal
+    begin = document.text[refused["offset"]:] if refused else b""
     has_position = refused and b"\r" not in document.text and not 0x80 <= (begin or b" ")[0] < 0xC0
-    expect(not has_position or start == int(refused[1]), f"{start} and {document.placed.refusal}")
+    expect(not has_position or start == refused["offset"], f"{start} and {refused}")
 
 
 def fuzz(count, seed):
@@ -367,7 +360,7 @@ def server_parts():
     yield "tools/lsp: offsets and positions", has_positions
     yield "tools/lsp: blocks and items", has_blocks
     yield "tools/lsp: tokens", has_tokens
-    yield "tools/lsp: given events as a schedule", is_one_schedule
+    yield "tools/lsp: blocks and items as the program has them", has_blocks_of_program
     yield "tools/lsp: diagnostics", has_diagnostics
     yield "tools/lsp: completions", completes
     yield "tools/lsp: what a completion replaces", replaces_what_is_begun

@@ -160,22 +160,24 @@ def talking(programs, tool="lsp", **variables):
             stream.close()
 
 
-# A program that never ends a journal, nor a run of a session, and says which process it is.
-ENDLESS = """#!/bin/sh
-[ "$1" = serve ] && exit 2
+# Programs that never end, and say which process they are: one in its answer about a scenario, one in a run of a
+# session.
+ENDLESS = {"lsp": """#!/bin/sh
+[ "$1" = serve ] || exec "{oracle}" "$@"
+read -r line
+[ "$line" != quit ] || {{ echo '{{"quit":true}}'; exit; }}
 echo $$ >"{folder}/pid"
-case $1 in
-    journal) exec sleep 1000 ;;
-    debug) ;;
-    *) exec "{oracle}" "$@" ;;
-esac
+exec sleep 1000
+""", "dap": """#!/bin/sh
+[ "$1" = debug ] || exec "{oracle}" "$@"
+echo $$ >"{folder}/pid"
 while read -r line; do
     case $line in
         where) echo "at 0 of 1" ;;
         run) : >"{folder}/runs"; exec sleep 1000 ;;
     esac
 done
-"""
+"""}
 # What a server is sent before it asks without an end, what tells that it does, and what is sent then: nothing where the
 # client leaves, none where the server is told to end by a signal.
 LOOKED_AT = HELLO + opened("jsoncrdt 1 replica a {}")
@@ -191,7 +193,7 @@ def asking_endlessly(programs, tool, sent):
     the program notes that it was asked."""
     with tempfile.TemporaryDirectory() as folder, contextlib.ExitStack() as stack:
         program = os.path.join(folder, "endless")
-        place(program, ENDLESS.format(oracle=os.path.abspath("oracle/jsoncrdt"), folder=folder))
+        place(program, ENDLESS[tool].format(oracle=os.path.abspath("oracle/jsoncrdt"), folder=folder))
         process, read = stack.enter_context(talking(programs, tool, JSONCRDT=program))
         process.stdin.write(sent)
         process.stdin.flush()
@@ -219,11 +221,11 @@ def ending_case(number, ending):
 
 
 def answers_meanwhile(programs):
-    """What needs nothing of the program is answered while that is asked; so is a text that is opened beside."""
+    """What needs nothing of the program is answered while that is asked."""
     if not library(programs, "pylsp_jsonrpc"):
         raise NotTried(NEEDED)
     with asking_endlessly(programs, "lsp", LOOKED_AT) as (process, read, folder):
-        expect(until(lambda: os.path.exists(os.path.join(folder, "pid"))), "no journal is asked for")
+        expect(until(lambda: os.path.exists(os.path.join(folder, "pid"))), "nothing is asked")
         process.stdin.write(asked_at(2, "hover") + asked_at(3, "documentSymbol"))
         process.stdin.flush()
         expect('"detail": "0 commands"' in read(lambda each: each.get("id") == 3), "no symbols")
@@ -442,7 +444,7 @@ def starts_server(programs):
 
 def servers():
     yield "tools/lsp: a text of 8 MiB", is_long
-    yield "tools/lsp: answers while a journal is asked for", answers_meanwhile
+    yield "tools/lsp: answers while the program is asked", answers_meanwhile
     for number, ending in enumerate(ENDINGS, 1):
         yield ending_case(number, ending)
     yield "tools/lsp: a program that isn't there", has_no_program

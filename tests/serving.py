@@ -24,6 +24,7 @@ from jsoncrdt.oracle.program import command_line, made
 from jsoncrdt.oracle.requests import Input
 from jsoncrdt.oracle.serve import Served, Subject, answers, serve
 from jsoncrdt.oracle.texts import Texts
+from jsoncrdt.serving import Here, line_of
 
 SEED, PATIENCE, FEW_SECONDS = 20261128, 120, 20
 BAD = '{"refused":{"name":"BadLine","number":58}}'
@@ -77,6 +78,13 @@ GIVEN_TEXT = ('"jsoncrdt 2\\nreplica a {\\n  doc.get(\\"a\\") := 1;\\n  doc.get(
 BELOW = """jsoncrdt 1
 replica p { doc.get("m") := {}; doc.get("m").get("x") := 1; doc.get("n") := 2; let m = doc.get("m"); m.get("x").delete }
 replica q { yield } schedule { p.exec; p.exec; p.exec; p.exec; p.exec; q.recv(p) }"""
+
+PARTS = """jsoncrdt 1
+replica p { doc.get("l") := []; doc.get("l").idx(0).insertAfter("a"); let e = doc.get("l").idx(1);
+  doc.get("l").idx(0) := "h"; e.delete; yield }
+replica q { doc.get("l").get("!k") := 1.50; yield }
+schedule { p.exec; p.exec; p.exec; p.exec; p.exec; q.exec; p.send; q.recv(p); q.apply(1, p); q.apply(2, p);
+  q.apply(3, p); q.apply(4, p) }"""
 
 STUCK_GIVEN = "jsoncrdt 2 replica a {yield} given {a.send; a.exec; a.done} schedule {a.done}"
 STUCK_SENT = '{"event":"a.send","given":true,"kind":"send","new":[],"number":1,"replica":"a"}'
@@ -180,6 +188,25 @@ WORKED = [
         ("run", '{"at":2,"break":3,"event":"p.exec"}'),
         ("goto 4", '{"at":4,"event":"p.exec"}'),
         ("event", '{"command":"let m = doc.get(\\"m\\")","event":"p.exec","kind":"exec","number":4,"replica":"p"}'),
+        ("view p doc", '{"doc":{"m":{"x":1},"n":2},"name":"p"}'),
+        ("view q doc", '{"name":"q"}'),
+        ("view p m", '{"doc":{"x":1},"name":"p"}'),
+        ('view  p\tm.get("x") ', '{"doc":1,"name":"p"}'),
+        ("view --at 5 p m", '{"doc":{},"name":"p"}'),
+        ('view --at 5 p m.get("x")', '{"name":"p"}'),
+        ('view --at 2 p doc.get("m").get("x")', '{"doc":1,"name":"p"}'),
+        ('view p doc.get("n").get("x")', '{"name":"p"}'),
+        ('view p doc.get("z").get("y").get("x")', '{"name":"p"}'),
+        ("view p m.keys", '{"keys":["x"]}'),
+        ('view p m.get("x").values', '{"values":[["2@p",{"n":"1"}]]}'),
+        ("view --at 3 p m", refused(22, "UnboundVariable")),
+        ("view p m.idx(1)", refused(25, "NoSuchNode", key='listT("m")')),
+        ("view p m.values", refused(28, "NoRegister")),
+        ("view p  m..", refused_text(7, "Unexpected", 2, 3, 1, 3)),
+        ("view p m n", refused_text(7, "Unexpected", 2, 3, 1, 3)),
+        ("view r m..", refused(18, "UnknownReplica")),
+        ("view --at 7 p x", refused(52, "PastSchedule")),
+        ("view --at -1 p x", refused(50, "AtStart")),
         ("eval p m", '{"cursor":["mapT(doc)","\\"m\\""]}'),
         ("eval p m.keys", '{"keys":["x"]}'),
         ("eval --at 5 p m.keys", '{"keys":[]}'),
@@ -206,6 +233,9 @@ WORKED = [
         ("view", GIVEN_STUCK),
         ("state a", GIVEN_STUCK),
         ("eval a doc", GIVEN_STUCK),
+        ("view a doc", GIVEN_STUCK),
+        ("view --at -2 a doc", '{"name":"a"}'),
+        ("view --at -1 a doc", GIVEN_STUCK),
         ("goto 9", GIVEN_STUCK),
         ("state z", refused(18, "UnknownReplica")),
         ("eval a ..", refused_text(7, "Unexpected", 0, 1, 1, 1)),
@@ -254,8 +284,31 @@ WORKED = [
         ("weave 7 100",
          '{"ends":[{"cause":"NoMap","end":"stuck","event":"b.exec","made":0,"name":"b","stuck":27}],"events":[]}'),
     ]),
+    (PARTS, '{"commands":8,"events":12,"given":0,"replicas":2}', [
+        ("goto 3", '{"at":3,"event":"p.exec"}'),
+        ('view p doc.get("l").idx(1)', '{"doc":"a","name":"p"}'),
+        ('view p doc.get("l").idx(0)', '{"name":"p"}'),
+        # What is assigned to a list's head is shown there alone.
+        ("goto 4", '{"at":4,"event":"p.exec"}'),
+        ('view p doc.get("l").idx(0)', '{"doc":"h","name":"p"}'),
+        ('view p doc.get("l")', '{"doc":["a"],"name":"p"}'),
+        ('view p doc.get("l").idx(0).get("x")', refused(23, "GetOnHead")),
+        # An element that was deleted is still what a variable is bound to.
+        ("view p e", '{"doc":"a","name":"p"}'),
+        ("goto 5", '{"at":5,"event":"p.exec"}'),
+        ("view p e", '{"name":"p"}'),
+        ('view p doc.get("l").idx(1)', refused(26, "PastEnd")),
+        ('view p doc.get("l")', '{"doc":[],"name":"p"}'),
+        # A name that begins with `!` is marked in what is shown, and nowhere else.
+        ("goto end", '{"at":12,"event":"q.apply(4, p)"}'),
+        ('view q doc.get("l")', '{"doc":{"!conflict":{"list":[],"map":{"!!k":1.50}}},"name":"q"}'),
+        ('view q doc.get("l").get("!k")', '{"doc":1.50,"name":"q"}'),
+        ('view q doc.get("l").keys', '{"keys":["!k"]}'),
+        ("view q doc", '{"doc":{"l":{"!conflict":{"list":[],"map":{"!!k":1.50}}}},"name":"q"}'),
+    ]),
     ("jsoncrdt 1 replica a", refused_text(8, "EndOfText", 20, 20, 1, 21), [
         ("view", refused_text(8, "EndOfText", 20, 20, 1, 21)),
+        ("view b x", refused_text(8, "EndOfText", 20, 20, 1, 21)),
         ("print", refused_text(8, "EndOfText", 20, 20, 1, 21)),
         ("state b", refused_text(8, "EndOfText", 20, 20, 1, 21)),
         ("break rule RECV-ONE", refused_text(8, "EndOfText", 20, 20, 1, 21)),
@@ -284,10 +337,11 @@ TEXTS = [
     (HEAD + "}\n\nschedule {\nbcd.exec}", (18, "UnknownReplica", 36, 39, 4, 1)),
 ]
 # What is no request, whatever there is.
-NO_REQUESTS = ["", " \t", "jump", "scenario", "scenario x", "scenario 01", "scenario 1 2", "scenario -1", "view a b",
-               "brief", "brief a b", "event 3", "event --effects --trace", "event --trace --trace", "event --at",
-               "event --at +1", "event --at -0", "view --at x", "view a --at 1", "goto -1", "goto ends", "goto",
-               "back runs", "run back",
+NO_REQUESTS = ["", " \t", "jump", "scenario", "scenario x", "scenario 01", "scenario 1 2", "scenario -1", "brief",
+               "brief a b", "event 3", "event --effects --trace", "event --trace --trace", "event --at",
+               "event --at +1",
+               "event --at -0", "view --at", "view --at x", "view --at x a doc", "state a doc", "goto -1", "goto ends",
+               "goto", "back runs", "run back",
                "breaks 1", "break", "break op", "break op 1", "break op 1@", "break op 01@a", "break op 1@a b",
                "break place", "break spot a", "eval", "eval --at 1", "journal 0", "journal 0 1 2",
                "journal --effects --trace 0 1", "print x", "places x", "weave", "weave 1", "weave -1 1", "weave 01 1",
@@ -495,6 +549,40 @@ def meets_the_same(_):
     expect(count > 100, f"{count} positions are few")
 
 
+def places_in(shown, expression):
+    """What is shown below a document's place, each with the expression that leads there."""
+    yield expression, shown
+    if isinstance(shown, dict) and list(shown) == ["!conflict"]:
+        for name in {"list", "map"} & shown["!conflict"].keys():
+            yield from list(places_in(shown["!conflict"][name], expression))[1:]
+    elif isinstance(shown, dict):
+        for name, part in shown.items():
+            key = json.dumps(name[1:] if name.startswith("!") else name)
+            yield from places_in(part, f"{expression}.get({key})")
+    elif isinstance(shown, list):
+        for number, part in enumerate(shown, 1):
+            yield from places_in(part, f"{expression}.idx({number})")
+
+
+def shows_parts(_):
+    """What is shown at a place is the part of the document there, at some positions of all examples."""
+    count, shown = 0, lambda answer: json.loads(answer, parse_int=str, parse_float=str)
+    for path in SCENARIOS:
+        text = stored(path)
+        (given, positions), ask = positions_of(text), Here()
+        if ask.bring(text.encode()).keys() & {"refused", "stuck"}:
+            continue
+        for position in {-(given // 2), *positions}:
+            for view in ask.ask(f"view --at {position}"):
+                views = f"view --at {position} {view['name']}"
+                line = shown(ask.answer(line_of(views)))
+                for expression, part in places_in(line["doc"], "doc") if "doc" in line else ():
+                    got = shown(ask.answer(line_of(f"{views} {expression}")))
+                    expect(got == {"doc": part, "name": view["name"]}, f"{path} at {position}, {expression}: {got}")
+                    count += 1
+    expect(count > 300, f"{count} places are few")
+
+
 def is_one_journal(_):
     """An event told at its position is its line in the journal, before it is gone to and when it is."""
     for path in SCENARIOS:
@@ -521,7 +609,8 @@ def is_one_journal(_):
 
 
 def goes_anywhere(_):
-    """The states are those that the events lead to, wherever one came from, with many copies on the way and with few."""
+    """The states are those that the events lead to, wherever one came from, with many copies on the way and with
+    few."""
     for number, path in enumerate(SCENARIOS):
         scenario, chance = read(stored(path).encode())[0], random.Random(SEED + number)
         with mock.patch.multiple(debugger, SHORTEST_WAY=chance.choice((1, 2, 5)), MOST_COPIES=chance.choice((2, 4))):
@@ -579,6 +668,11 @@ WRONG = [
     ("goes below 0", "debugger.py", "        if count > self.position:\n", "        if count > self.here.count:\n"),
     ("runs back past a breakpoint", "debugger.py", "found = (position, hit) if hit else found",
      "found = (position, hit) if hit and not found[1] else found"),
+    ("shows the document for a place", "view.py", "View(texts, replica).place(context, path, key)",
+     "View(texts, replica).place(replica.tree, (), DOC)"),
+    ("shows what was deleted", "view.py", "    if context and context.presences.get(key):\n", "    if context:\n"),
+    ("shows a place for its names", "serve.py", 'if kind == "cursor" else self.texts.bound((kind, *bound))',
+     "if bound[-1:] else b''"),
     ("meets what was taken for another place", "debugger.py", "return event[1] == what[0] and self.changes",
      "return self.changes"),
     ("keeps breakpoints", "serve.py", "self.served = Served(scenario)",
@@ -766,6 +860,7 @@ def serving():
     yield "serve: as a session", is_as_session
     yield "serve: runs forwards and back", meets_the_same
     yield "serve: events at their positions", is_one_journal
+    yield "serve: places of documents", shows_parts
     yield "serve: states wherever one comes from", goes_anywhere
     yield "serve: what shows something changes nothing", evaluates_alone
     for row in WRONG:

@@ -15,13 +15,15 @@ import sys
 import tempfile
 import termios
 import time
+from unittest import mock
 
 from cases import IN_PYTHON, expect, expect_same, folder_of, run, stored
 
+import positions
 from asking import Scenario
 from commands import COMMANDS
 from layout import WIDTH, laid_out, read_json, runs_of
-from positions import InPython, Positions
+from positions import Positions
 from predicates import KINDS, predicate_of
 from jsoncrdt.oracle.program import command_line
 from jsoncrdt.oracle.sentences import SENTENCES
@@ -334,20 +336,21 @@ ASKED = [(TO_DO, "conflict"), (TO_DO, "diverge"), (TO_DO, "not diverge"), (TO_DO
 
 
 def found_case(file, text):
-    """From each position the nearest ones that way and this, by calls and in this process."""
+    """From each position the nearest ones that way and this, by `serve` and by the commands of a program without it."""
 
     def tried(_):
         scenario = Scenario(stored(file))
         predicate = predicate_of(text, list(scenario.scripts))
         wanted, last = list(brute(file, predicate)), len(scenario.events) - (file == STUCK)
         expect(wanted or text == "conflict", "it holds nowhere")
-        for kind in (InPython, Positions):
-            positions = kind(scenario, scenario.events)
-            for here in range(0, last + 1, 1 if kind == InPython else 6):
-                found = positions.next_with(here, predicate.holds), positions.last_with(here, predicate.holds)
-                later, earlier = [n for n in wanted if n > here], [n for n in wanted if n < here]
-                due = min(later, default=None), max(earlier, default=None)
-                expect(found == due, f"{kind.__name__} finds {found} from {here}, and not {due}")
+        for has_serve, step in ((True, 1), (False, 6)):
+            with mock.patch.object(positions, "asked", positions.asked if has_serve else lambda: None):
+                along = Positions(scenario, scenario.events)
+                for here in range(0, last + 1, step):
+                    found = along.next_with(here, predicate.holds), along.last_with(here, predicate.holds)
+                    later, earlier = [n for n in wanted if n > here], [n for n in wanted if n < here]
+                    due = min(later, default=None), max(earlier, default=None)
+                    expect(found == due, f"{found} from {here}, and not {due}, with serve: {has_serve}")
 
     return f"debug: {text} in {file}", tried
 

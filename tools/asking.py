@@ -1,6 +1,8 @@
 """What the tools here have in common: which program they ask and how, and how they read its texts."""
 
 import collections
+import contextlib
+import errno
 import functools
 import json
 import os
@@ -95,36 +97,64 @@ def told(words, text=""):
 
 
 class Asked:
-    """The program, asked through its `serve`, or the rules in Python here: requests that show something of a scenario,
-    and change nothing. Where there is no answer, or a refusal that the tool can't go on with, the tool ends."""
+    """The program, asked through its `serve`, or the rules in Python: requests about a scenario. They change nothing of
+    it but the position, on which no other request relies; what makes events, as `act`, stands within `changing`. Where
+    there is no answer, or a refusal that the tool can't go on with, the tool ends."""
 
     def __init__(self, answering):
-        self.answering, self.brought, self.lock = answering, None, threading.RLock()
+        self.answering, self.brought, self.counts, self.lock = answering, None, None, threading.RLock()
+
+    def bring(self, text):
+        """Brings a scenario, and gives the answer: its counts, with a given event that is stuck, or why it is
+        refused."""
+        with self.lock:
+            if text != self.brought or not self.answering.is_ready():
+                self.brought = None
+                content = text if isinstance(text, bytes) else text.encode()
+                self.counts, self.brought = self.whole(self.answering.bring, content), text
+            return self.counts
+
+    def break_off(self):
+        """Ends what another thread asks, which has no answer then."""
+        self.answering.break_off()
+
+    @contextlib.contextmanager
+    def changing(self):
+        """Requests meanwhile may change the scenario, which is brought anew behind them."""
+        with self.lock:
+            self.brought = None
+            try:
+                yield
+            finally:
+                self.brought = None
 
     def refusal(self, text):
-        """Brings a scenario, and gives the line that refuses it, if one does. A given event may be stuck."""
-        if text == self.brought:
-            return None
-        self.brought = None
-        refusal = self.whole(self.answering.bring, text.encode()).get("refused")
-        self.brought = None if refusal else text
+        """The line that refuses a scenario, if one does. A given event may be stuck."""
+        refusal = self.bring(text).get("refused")
         return refusal and line_of_refusal(refusal)
 
+    def told(self, text, request):
+        """The answer to a request about a scenario, be it a refusal."""
+        with self.lock:
+            self.bring(text)
+            return self.whole(self.answering.ask, request)
+
     def about(self, text, request):
-        """The answer to a request about a scenario."""
-        return self.answer(text, request, self.answering.ask)
+        """The answer to a request about a scenario that the tool can't go on without."""
+        return unless_refused(self.told(text, request))
+
+    def line_told(self, text, request):
+        """What answers a request, as it is written."""
+        with self.lock:
+            self.bring(text)
+            return self.whole(lambda asked: self.answering.answer(serving.line_of(asked)).decode(), request)
 
     def line_about(self, text, request):
-        """The same as it is written."""
-        return self.answer(text, request, lambda asked: self.answering.answer(asked.encode()).decode())
-
-    def answer(self, text, request, ask):
-        with self.lock:
-            refusal = self.refusal(text)
-            answer = stop(refusal, 1) if refusal else self.whole(ask, request)
-        if isinstance(answer, dict) and "refused" in answer:
-            stop(line_of_refusal(answer["refused"]), 1)
-        return answer
+        """The same of one that the tool can't go on without."""
+        line = self.line_told(text, request)
+        if line.startswith(REFUSED):
+            unless_refused(json.loads(line))
+        return line
 
     def whole(self, ask, what):
         try:
@@ -133,17 +163,51 @@ class Asked:
             self.brought = None
             return stop(f"{lost}, and gave no answer", READ_OR_WRITE_FAILED)
         except ValueError:
+            self.brought = None
             return stop(f"{program()} isn't jsoncrdt: it answered no JSON")
+
+
+def unless_refused(answer):
+    """The answer; where it is a refusal the tool ends."""
+    if isinstance(answer, dict) and "refused" in answer:
+        stop(line_of_refusal(answer["refused"]), 1)
+    return answer
+
+
+# Who answers requests of `serve` in place of the rules in this process: a process of theirs, in a tool that has a
+# client to answer meanwhile, and may have to break off what it asks.
+IN_THIS_PROCESS = True
+
+
+def ask_apart():
+    """From now on the rules in Python answer in a process of their own, too."""
+    global IN_THIS_PROCESS
+    IN_THIS_PROCESS = False
 
 
 @functools.cache
 def asked():
     """What answers requests of `serve`; none where the program hasn't the command yet."""
-    answering = serving.answering(choosing.program(), say)
-    return answering and Asked(answering)
+    path = choosing.program()
+    if not path:
+        return in_python()
+    return Asked(serving.Process(path, say)) if serving.has_serve(path) else None
 
 
-DOCUMENT = '{"doc":'
+@functools.cache
+def in_python():
+    """The rules in Python, by their `serve`."""
+    return Asked(serving.Here() if IN_THIS_PROCESS else serving.Process(IN_PYTHON, say))
+
+
+def served():
+    """What answers requests of `serve`: the program, or where it hasn't the command yet the rules in Python."""
+    if not asked() and not os.path.exists(program()):
+        stop(f"{program()}: {os.strerror(errno.ENOENT)}")
+    return asked() or in_python()
+
+
+DOCUMENT, REFUSED = '{"doc":', '{"refused":'
 
 
 def document_of(line):
@@ -220,8 +284,8 @@ class Scenario:
 
 EVENT = re.compile(r"(\w+)\.(exec|send|done|recv|take|apply)(?:\((?:([A-Za-z_]\w*), )?(?:(\d+), )?(\w+)\))?")
 
-# The replica of an event, its kind, for recv and take the sender, and for take and apply the counter and the maker of the
-# operation. What an event hasn't is none.
+# The replica of an event, its kind, for recv and take the sender, and for take and apply the counter and the maker of
+# the operation. What an event hasn't is none.
 Parts = collections.namedtuple("Parts", "replica kind sender counter maker")
 
 

@@ -5,20 +5,20 @@ A place is the tuple of the keys that lead to it, as they are written in effects
 Its text has `/` between them.
 """
 
-import io
 import json
 import re
 from collections import namedtuple
 
 import asking  # which says where the modules below are
 from jsoncrdt.oracle.effects import effect_at
-from jsoncrdt.oracle.grammar import read, read_expression
-from jsoncrdt.oracle.program import command_line
-from jsoncrdt.oracle.rules import Network, Stuck, change, cursor_of
-from jsoncrdt.oracle.texts import REFUSALS, Texts, string
+from jsoncrdt.oracle.grammar import read_expression
+from jsoncrdt.oracle.texts import REFUSALS, string
 
 KEY = r'(?:"(?:[^"\\]|\\.)*"|head|\d+@[A-Za-z_][0-9A-Za-z_]*)'
 PLACE = re.compile(f"doc(?:/{KEY})*")
+# A tagged key of a cursor.
+TAGGED = re.compile(r"(?:map|list)T\((.*)\)", re.DOTALL)
+NOT_A_CURSOR = 24
 
 # A line of the journal, a place, and what the event changed there and below, as it stands in the effects.
 Change = namedtuple("Change", "line place effect")
@@ -31,24 +31,14 @@ class NoPlace(Exception):
 # ---- the journal
 
 
-def journal_with_effects(text):
-    """The lines of a scenario's journal, with what each event changed. A program that has no `serve` has no effects, so
-    then they come from the rules in Python."""
-    if asking.asked():
-        return asking.asked().about(text, "journal --effects")
-    out = io.BytesIO()
-    command_line(["journal", "--effects", "-"], io.BytesIO(text.encode()), out, io.StringIO())
-    return [json.loads(line) for line in out.getvalue().decode().split("\n")[:-1]]
-
-
 class Journal:
     """What happened in the scenario of a text, which isn't refused: the lines of the events that were made, given ones
     first, that of the stuck one, if one is, and for each operation the line of the event that made it."""
 
     def __init__(self, text):
-        self.parsed = read(text.encode())[0]
-        self.names = [name.decode() for name in self.parsed.names]
-        self.lines = journal_with_effects(text)
+        self.text, self.lines = text, asking.journal_of(text, "--effects")
+        blocks = asking.served().about(text, "places")
+        self.names = sorted(block["name"] for block in blocks if block["kind"] == "replica")
         self.stuck = self.lines.pop() if self.lines and "stuck" in self.lines[-1] else None
         self.made = {line["op"]["id"]: line for line in self.lines if line["kind"] == "exec" and "op" in line}
         self.scheduled = [line for line in self.lines if "given" not in line]
@@ -61,28 +51,21 @@ class Journal:
             if PLACE.fullmatch(text):
                 found = dict.fromkeys(self.names, place_of(text))
             else:
-                expression, network = expression_of(text), self.network(position)
-                found = {name: self.evaluated(text, expression, each) for name, each in zip(self.names, network)}
+                check(text)
+                found = {name: self.evaluated(text, name, position) for name in self.names}
             self.found[text, position] = found
         return self.found[text, position]
 
-    def evaluated(self, text, expression, replica):
-        texts = Texts(self.parsed.names)
-        try:
-            path, last = cursor_of(replica, expression, 0, [])
-        except Stuck as stuck:
-            key = f" {texts.tagged(stuck.key).decode()}" if stuck.key else ""
-            why = f"{stuck.number} {REFUSALS[stuck.number]}{key}"
-            return NoPlace(f"{text} is no place at {self.names[replica.number]}: {why}")
-        return tuple(texts.key(key).decode() for key in (*(key for _, key in path), last))
-
-    def network(self, position):
-        """The network after so many events of the schedule, or after all, as far as they were made."""
-        network = Network(self.parsed.version, self.parsed.scripts)
-        events = self.parsed.given + self.parsed.schedule[:position]
-        for event in events[:len(self.lines)]:
-            change(network, event, [])
-        return network
+    def evaluated(self, text, name, position):
+        """Where an expression leads to at a replica, after so many events of the schedule or after all, as far as they
+        were made."""
+        served = asking.served()
+        last = len(self.lines) - served.bring(self.text)["given"]
+        bound = served.told(self.text, f"eval --at {last if position is None else min(position, last)} {name} {text}")
+        if "cursor" in bound:
+            return tuple(tagged[1] if (tagged := TAGGED.fullmatch(key)) else key for key in bound["cursor"])
+        why = bound.get("refused", {"number": NOT_A_CURSOR, "name": REFUSALS[NOT_A_CURSOR]})
+        return NoPlace(f"{text} is no place at {name}: {refusal_in_words(why)}")
 
     def changes(self, place, name, position=None):
         """What changed at a place, or below it, at a replica, up to a position of the schedule; the newest is first. At
@@ -100,6 +83,10 @@ class Journal:
         return is_there and effect_at(line.get("effects", ()), place) is not None
 
 
+def refusal_in_words(refusal):
+    return " ".join(filter(None, [str(refusal["number"]), refusal["name"], refusal.get("key")]))
+
+
 def place_of(text):
     """The place that is written so. A name may be spelt in any way of JSON."""
     try:
@@ -109,19 +96,21 @@ def place_of(text):
         raise NoPlace(f"{text} has a name that is no string of JSON") from error
 
 
-def expression_of(text):
+def check_expression(text):
     try:
-        expression, fault = read_expression(text.encode())
+        _, fault = read_expression(text.encode())
     except UnicodeEncodeError as error:
         raise NoPlace(f"{text!a} isn't UTF-8") from error
     if fault:
         raise NoPlace(f"{text} is neither a place nor an expression: {fault[1]} {REFUSALS[fault[1]]} at {fault[0]}")
-    return expression
 
 
 def check(text):
     """Raises NoPlace where no replica has a place for the text, whatever it has."""
-    (place_of if PLACE.fullmatch(text) else expression_of)(text)
+    if PLACE.fullmatch(text):
+        place_of(text)
+    else:
+        check_expression(text)
 
 
 def places_at(journal, text, names, position):

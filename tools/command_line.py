@@ -9,8 +9,9 @@ from collections import namedtuple
 Option = namedtuple("Option", "name short value about default", defaults=(None, None, "", None))
 Command = namedtuple("Command", "name options about more")
 
-ABOUT = ("A command machine and time-travelling debugger for the JSON CRDT of Kleppmann and Beresford (2017). It executes "
-         "scenarios of concurrent edits by the published rules, forwards and backwards, and shows what they give, and why.")
+ABOUT = ("A command machine and time-travelling debugger for the JSON CRDT of Kleppmann and Beresford (2017). It "
+         "executes scenarios of concurrent edits by the published rules, forwards and backwards, and shows what they "
+         "give, and why.")
 HELP = Option("--help", "-h", about="Print help")
 VERSION = Option("--version", "-V", about="Print version")
 HELP_COMMAND = "help", "Print the help of the program, or of a command"
@@ -38,10 +39,11 @@ COMMANDS = [
             "Prints a line of JSON for each replica. More than one alternative at a place is shown under the name "
             "!conflict."),
     Command("journal",
-            [Option("--trace", about="Print the rules that each event used, in its line (this may be long)")],
+            [Option("--trace", about="Print the rules that each event used, in its line (this may be long)"),
+             Option("--effects", about="Print what each event changed in the tree of its replica, in its line")],
             "Execute the schedule, and print a line of JSON for each event, with its operation in full",
-            "Given events come first. The line of a stuck event is the last, and says what is missing where dependencies "
-            "are."),
+            "Given events come first. The line of a stuck event is the last, and says what is missing where "
+            "dependencies are."),
     Command("debug", [],
             "Debugger: step through the schedule, forwards and backwards, by lines of standard input",
             "Answers each line before it reads the next. debug --help lists the lines; act cuts off the rest of the "
@@ -50,16 +52,16 @@ COMMANDS = [
             [Option("--limit", value="N", about="Let each replica execute N events at most, from 0 to 100000",
                     default="10000")],
             "Run each replica in a thread of its own, and print the scenario with the schedule that they made",
-            "The schedule in the file isn't looked at; given events are executed first, and kept. A line for each replica "
-            "goes to standard error. A stuck event isn't in the schedule that is printed."),
+            "The schedule in the file isn't looked at; given events are executed first, and kept. A line for each "
+            "replica goes to standard error. A stuck event isn't in the schedule that is printed."),
     Command("weave",
             [Option("--seed", value="N", about="Draw the schedule from this number, from 0 to 18446744073709551615",
                     default="0"),
              Option("--limit", value="N", about="Let the schedule have N events at most, from 0 to 100000",
                     default="10000")],
             "Draw a schedule from a seed, in which each replica chooses its events, and print the scenario with it",
-            "The same seed gives the same schedule. The schedule in the file isn't looked at; given events are executed "
-            "first, and kept. A line for each replica goes to standard error. A stuck event isn't in the schedule."),
+            "The same seed gives the same schedule. The schedule in the file isn't looked at; given events are "
+            "executed first, and kept. A line for each replica goes to standard error. A stuck event isn't in the schedule."),
 ]
 STATUSES = [
     (0, "done, also after help and the version"),

@@ -9,6 +9,7 @@ import re
 
 import changes
 import fates
+from asking import served
 from layout import laid_out, read_json, shortened, traced
 from jsoncrdt.oracle.lines import RULES, is_rule
 from predicates import KINDS, predicate_of
@@ -82,16 +83,13 @@ def back_until(debugger, text):
 
 def last_breakpoint(debugger):
     """The position before this one at which a run from the start would stop last, or none."""
-    here, found = debugger.position, None
-    debugger.conversation.ask("goto 0")
-    while debugger.position < here and not debugger.pressed():
-        debugger.conversation.ask("run")
-        if debugger.position < here:
-            found = debugger.position
-    debugger.conversation.ask(f"goto {here}")
-    if debugger.pressed():
-        raise Stopped
-    return found
+    asked, text = served(), debugger.positions.text
+    numbers = [asked.about(text, f"break {what}")["set"] for what in debugger.breakpoints.values()]
+    asked.about(text, f"goto {debugger.position}")
+    found = asked.told(text, "back run")
+    for number in numbers:
+        asked.about(text, f"unbreak {number}")
+    return found["at"] if "break" in found else None
 
 
 def act(debugger, line):

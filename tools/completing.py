@@ -4,7 +4,6 @@ says is enabled there, in a script what the grammar asks for."""
 import asking  # which says where the modules below are
 import bisect
 
-from placed import one_schedule
 from jsoncrdt.oracle.refusal import DIGITS, STRING, VARIABLE, Asking, wanted_behind
 
 FUNCTION, VARIABLE_KIND, CLASS, VALUE, KEYWORD, EVENT = 3, 6, 7, 12, 14, 23
@@ -25,8 +24,7 @@ def completions(document, offset):
     word = offset - len(source.text[start:offset]) + len(source.text[start:offset].rstrip(LETTERS))
     if block.word == "replica":
         return in_script(source, block, start, word, offset)
-    before = sum(item.start < start for item in block.items)
-    return in_schedule(document, block, before, start, offset)
+    return in_schedule(document, start, offset)
 
 
 def begin_of(block, offset):
@@ -81,11 +79,10 @@ def continued(before, word):
     return text
 
 
-def in_schedule(document, block, before, start, offset):
-    """The events that are enabled behind those before this one, and the replicas."""
-    source, found = document.source, []
-    text, position = one_schedule(source, block, before)
-    answers = document.questions.session(text, [f"goto {position}", "enabled"])
-    if answers[0] == f"at {position}" and not answers[1].startswith("stuck "):
-        found = [item(source, event, EVENT, start, offset) for event in answers[1:] if event != "none"]
-    return found + [item(source, name, CLASS, start, offset) for name in source.replicas]
+def in_schedule(document, start, offset):
+    """The events that are enabled behind those before this one, where all of these can be made, and the replicas."""
+    source = document.source
+    moved, enabled = document.questions.ask_all(source.text[:start] + b"}", "goto end", "enabled")
+    events = [] if "refused" in moved or "stuck" in moved else enabled
+    return [item(source, name, kind, start, offset)
+            for names, kind in ((events, EVENT), (source.replicas, CLASS)) for name in names]

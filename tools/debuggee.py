@@ -10,10 +10,10 @@ from asking import Scenario, bytes_of
 from conversation import Ended, begun
 from debugger import REFUSED, Debugger
 from documents import GIVEN_STUCK, found_and_meant
+from evaluation import value_of
 from layout import read_json
 from placed import ENDS_COMMAND
 from places import Source
-from positions import InPython
 from jsoncrdt.oracle.refusal import place_of, sentence_of
 
 # Where something is: in the file where `reference` is 0, else in the document with this number.
@@ -95,13 +95,11 @@ class Debuggee:
         return read_json(self.ask(f"state {replica}")[0])
 
     def document(self, replica):
-        views = self.debugger.positions.views(self.position)
-        view = read_json(views[self.replicas.index(replica)])
+        view = read_json(self.debugger.positions.view(self.position, replica))
         return {"doc": view["doc"]} if "doc" in view else {}
 
-    def in_python(self):
-        """The positions by the rules in Python, which evaluate expressions."""
-        return in_python(self.debugger.scenario, self.debugger.positions)
+    def value(self, replica, expression):
+        return value_of(self.debugger.positions, expression, replica, self.position)
 
     # ---- where things are
 
@@ -171,11 +169,6 @@ class Debuggee:
 
     def is_file(self, path):
         return not path or os.path.realpath(path) == os.path.realpath(self.file)
-
-
-@functools.lru_cache(maxsize=1)
-def in_python(scenario, positions):
-    return positions if isinstance(positions, InPython) else InPython(scenario, positions.events)
 
 
 @functools.lru_cache(maxsize=4)

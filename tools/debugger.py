@@ -11,7 +11,7 @@ from asking import EVENT
 from changes import NoPlace
 from commands import COMMANDS, OVER, Line, Stopped, Wrong, begun_by, commands_of
 from layout import WIDTH, shortened
-from positions import positions_of
+from positions import Positions
 from predicates import NoPredicate
 from rows import Row
 from jsoncrdt.oracle.sentences import SENTENCES
@@ -28,7 +28,7 @@ class Debugger:
     def __init__(self, conversation, scenario, write, pressed=lambda: False):
         self.conversation, self.scenario, self.write, self.pressed = conversation, scenario, write, pressed
         self.names = list(scenario.scripts)
-        self.positions = positions_of(scenario, scenario.events)
+        self.positions = Positions(scenario, scenario.events)
         self.breakpoints, self.last_move, self.enabled_at = {}, None, (None, [])
 
     @property
@@ -153,7 +153,7 @@ class Debugger:
     def refresh(self, event):
         """Takes over the schedule that `act` has cut off and gone on with."""
         events = self.positions.events[:self.position - 1] + [event]
-        self.positions = positions_of(self.scenario, events)
+        self.positions = Positions(self.scenario, events)
 
     def enabled(self):
         """The events that can be executed at the position, asked once for each."""

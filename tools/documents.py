@@ -2,13 +2,12 @@
 
 import asking  # which says where the modules below are
 import functools
-import re
 import threading
 
 from jsoncrdt.oracle.explaining import stuck_by
 from jsoncrdt.oracle.grammar import read
 from jsoncrdt.oracle.lacking import Lack
-from placed import Placed, one_schedule
+from placed import Placed
 from places import Source, in_bytes
 from questions import Questions
 from jsoncrdt.oracle.refusal import OF_SENTENCES, explained, sentence_of
@@ -17,49 +16,42 @@ from jsoncrdt.oracle.texts import Texts
 
 ERROR, WARNING = 1, 2
 GIVEN_STUCK = 44
-REFUSED = re.compile(r"refused (\d+) \w+(?: at (\d+))?")
 # What is said besides of a longer text, or of one with more events, would keep the server busy.
 MOST_EXPLAINED, MOST_EVENTS = 262_144, 2_000
 
 
 class Document:
-    """A text of an editor. A change makes another one, behind this one, which is left. Several threads ask about it:
-    what needs nothing of the program doesn't wait for what does."""
+    """A text of an editor. A change makes another one, and this one is left. Several threads ask about it: what needs
+    nothing of the program doesn't wait for what does."""
 
-    def __init__(self, uri, text, before=None):
+    def __init__(self, uri, text):
         self.uri, self.text = uri, in_bytes(text)
-        self.questions = Questions(before.questions if before else None)
-        self.placing, self.found = threading.Lock(), None
+        self.questions, self.looking, self.found = Questions(self.text), threading.Lock(), None
 
     @functools.cached_property
     def source(self):
         return Source(self.text)
 
-    @property
-    def placed(self):
-        """The journal with its places, which is asked for once."""
-        with self.placing:
-            self.found = self.found or Placed(self.source, self.questions)
-            return self.found
-
     @functools.cached_property
-    def one_schedule(self):
-        return one_schedule(self.source)[0]
+    def placed(self):
+        return Placed(self.source, self.questions)
+
+    @property
+    def refusal(self):
+        """Why the text is refused, if it is, which is asked once."""
+        with self.looking:
+            self.found = self.found or self.questions.counts()
+            return self.found.get("refused")
 
     def location(self, span):
         return {"uri": self.uri, "range": self.source.range(span.start, span.end)}
 
-    def answers(self, lines):
-        """The answers to lines of a session, in which given events are the first of the schedule."""
-        return self.questions.session(self.one_schedule, lines)
-
 
 def diagnostics(document):
     """What is wrong: why the text is refused, or the event that is stuck."""
-    placed = document.placed
-    if placed.refusal:
-        return [of_refused(document, REFUSED.fullmatch(placed.refusal))]
-    return [of_stuck(document, placed)] if placed.stuck else []
+    if document.refusal:
+        return [of_refused(document, document.refusal)]
+    return [of_stuck(document, document.placed)] if document.placed.stuck else []
 
 
 def diagnostic(where, severity, number, *said):
@@ -68,9 +60,9 @@ def diagnostic(where, severity, number, *said):
 
 
 def of_refused(document, refused):
-    """The refusal of a text, at what is at its offset."""
-    number, offset = int(refused[1]), int(refused[2] or 0)
-    where = document.source.range(offset, document.source.end_of_fault(offset))
+    """The refusal of a text, at what is refused of it."""
+    number, offset = refused["number"], refused["offset"]
+    where = document.source.range(offset, refused["end"])
     return diagnostic(where, ERROR, number, *found_and_meant(document.text, number, offset))
 
 
@@ -103,13 +95,14 @@ def in_journal(line):
 
 
 def lack_of(document, line):
-    """What is missing for the event that is stuck, in words, as the rules in Python find it."""
-    scenario, fault = read(document.text) if len(document.placed.lines) <= MOST_EVENTS else (None, True)
+    """What is missing for the event that is stuck, in words, as the rules in Python find it; nothing behind too many
+    events."""
+    count = document.placed.given + document.placed.last
+    scenario, fault = read(document.text) if count <= MOST_EVENTS else (None, True)
     if fault:
         return ""
-    events, position = scenario.given + scenario.schedule, document.placed.position_of(line)
-    network = Network(scenario.version, scenario.scripts)
-    for event in events[:position - 1]:
+    events, network = scenario.given + scenario.schedule, Network(scenario.version, scenario.scripts)
+    for event in events[:count]:
         change(network, event, [])
-    stuck = stuck_by(network, events[position - 1])
-    return Lack(network, events[position - 1], stuck, Texts(scenario.names)).text() if stuck else ""
+    stuck = stuck_by(network, events[count])
+    return Lack(network, events[count], stuck, Texts(scenario.names)).text() if stuck else ""

@@ -2,10 +2,8 @@
 schedule."""
 
 import re
-import tempfile
 
-from conversation import Conversation
-from places import Source, Span, in_bytes
+from places import Span
 
 CLASS, VARIABLE, EVENT = 5, 13, 24
 REWRITE = "refactor.rewrite"
@@ -13,7 +11,7 @@ REWRITE = "refactor.rewrite"
 WEAVE, FILL, GIVE, SYNC = "jsoncrdt.weave", "jsoncrdt.fill", "jsoncrdt.give", "jsoncrdt.sync"
 VERSION = re.compile(rb"\s*jsoncrdt\s+(\w+)")
 SEMICOLON = re.compile(rb"\s*;")
-MOST_PARTNERS = 8
+MOST_PARTNERS, MOST_WOVEN = 8, 10_000
 
 
 # ---- symbols and definitions
@@ -53,7 +51,9 @@ def definition(document, offset):
     replica = source.replicas.get(word.decode(errors="replace"))
     if replica:
         return document.location(replica.name_span)
-    line = document.placed.line_at(offset)
+    if document.refusal:
+        return None
+    line = document.placed.line(document.placed.position_at(offset))
     made = document.placed.maker_of(line) if line and line["kind"] in ("apply", "take") else line
     command = document.placed.command_of(made) if made else None
     return document.location(command) if command else None
@@ -63,8 +63,8 @@ def definition(document, offset):
 
 def formatting(document):
     """The canonical text in place of one that isn't refused."""
-    text, status = document.questions.ask(["print", "-"], document.text)
-    if status or text.encode() == document.text:
+    text = None if document.refusal else document.questions.ask("print")
+    if text is None or text.encode() == document.text:
         return []
     return [{"range": document.source.range(0, len(document.text)), "newText": text}]
 
@@ -87,9 +87,7 @@ def workspace_edit(document, edits):
 
 def woven(document, seed):
     """The events that the program weaves of the text, or none where it can't."""
-    text, _ = document.questions.ask(["weave", "--seed", str(seed), "-"], document.text)
-    schedule = Source(in_bytes(text)).schedule
-    return schedule.texts() if schedule and text.startswith("jsoncrdt ") else None
+    return document.questions.ask(f"weave {seed} {MOST_WOVEN}").get("events")
 
 
 def weave_edit(document, seed):
@@ -134,32 +132,36 @@ def give_before(document, offset):
 
 # ---- two replicas brought to the same operations
 
+def in_words(answer):
+    """Why an event can't be made, or how two replicas compare, as a line of a session."""
+    if "operations" in answer:
+        return " ".join(f"{answer[part]} {part}" for part in ("operations", "tree") if part in answer)
+    told = answer.get("stuck") or answer["refused"]
+    numbered = (told["stuck"], told["cause"], told["event"]) if "stuck" in told else (told["number"], told["name"])
+    return " ".join(["stuck" if "stuck" in told else "refused", *map(str, numbered)])
+
+
 def exchanged(ask, one, other):
-    """The events that bring to two replicas what the other one made, those that the session doesn't refuse, and the
-    last thing that it says: of both behind them, or why there are none. `ask` gives the lines that answer a line."""
+    """The events that bring to two replicas what the other one made, those that can be made, and the last thing that is
+    said: of both behind them, or why there are none. `ask` gives the answer to a request."""
     tried = [f"{one}.send", f"{other}.send", f"{one}.recv({other})", f"{other}.recv({one})"]
     answers = {event: ask(f"act {event}") for event in tried}
-    made = [event for event, answer in answers.items() if len(answer) == 1]
-    refusals = [answer[-1] for answer in answers.values() if len(answer) > 1]
+    refusals = [answer for answer in answers.values() if answer.keys() & {"stuck", "refused"}]
+    made = [event for event, answer in answers.items() if answer not in refusals]
     while applies := [event for event in ask("enabled") if event.startswith((f"{one}.apply(", f"{other}.apply("))]:
         made.append(applies[0])
         ask(f"act {applies[0]}")
-    return made, ask(f"compare {one} {other}")[0] if made else refusals[0]
+    return made, in_words(ask(f"compare {one} {other}") if made else refusals[0])
 
 
 def sync(document, offset, one, other):
     """What brings two replicas together behind the events before an offset of the schedule, written out; none where
     nothing does. And what the program says."""
-    with tempfile.NamedTemporaryFile(suffix=".jsoncrdt") as file:
-        file.write(document.text)
-        file.flush()
-        conversation = Conversation(file.name)
-        document.questions.keep(conversation.process)
-        try:
-            conversation.ask(f"goto {count_before(document.source.schedule, offset)}")
-            made, said = exchanged(lambda line: [row.rstrip("\n") for row in conversation.ask(line)], one, other)
-        finally:
-            conversation.end()
+    with document.questions.asked() as asked, asked.changing():
+        moved = asked.told(document.text, f"goto {count_before(document.source.schedule, offset)}")
+        if moved.keys() & {"stuck", "refused"}:
+            return None, in_words(moved)
+        made, said = exchanged(lambda request: asked.told(document.text, request), one, other)
     return insert_edit(document, offset, made) if made else None, said
 
 
@@ -197,7 +199,7 @@ def weave_command(document, seed):
 
 def code_actions(document, offset, seed):
     """What can be done at an offset of a text that isn't refused."""
-    if document.placed.refusal:
+    if document.refusal:
         return []
     found = [command(f"Replace the schedule by a woven one (seed {seed})", WEAVE, document, seed)]
     if count_before(document.source.schedule, offset):
@@ -211,6 +213,6 @@ def code_actions(document, offset, seed):
 
 def lenses(document, seed):
     block = document.source.schedule or next(iter(document.source.blocks), None)
-    if document.placed.refusal or not block:
+    if document.refusal or not block:
         return []
     return [{"range": document.source.range(block.start, block.inside), "command": weave_command(document, seed)}]

@@ -1,12 +1,8 @@
-"""What an expression gives at a replica, by the rules in Python, whatever program answers the rest."""
+"""What an expression gives at a replica."""
 
-import asking  # which says where the modules below are
-
-from changes import NoPlace, expression_of
+from asking import served
 from jsoncrdt.oracle.refusal import sentence_of
-from jsoncrdt.oracle.rules import Stuck, below, evaluate
-from jsoncrdt.oracle.texts import array, string
-from jsoncrdt.oracle.view import View
+from layout import read_json
 
 
 class NoValue(Exception):
@@ -14,25 +10,19 @@ class NoValue(Exception):
 
 
 def value_of(positions, text, name, position):
-    """The JSON text of what an expression gives at a replica at a position of these, which are those by the rules in
-    Python: of a place the document there, of names and of values a list."""
-    try:
-        expression = expression_of(text)
-        replica = positions.go_to(position)[positions.parsed.names.index(name.encode())]
-        bound = evaluate(replica, expression, 0, [])
-        if bound[0] == "cursor":
-            return shown_at(positions.texts, replica, *bound[1:])
-    except NoPlace as fault:
-        raise NoValue(str(fault)) from fault
-    except Stuck as stuck:
-        raise NoValue(f"{text} gives nothing at {name}: {sentence_of(stuck.number)}") from stuck
-    shown = positions.texts.pairs(bound[1]) if bound[0] == "values" else array(map(string, bound[1]))
-    return shown.decode()
-
-
-def shown_at(texts, replica, path, key):
-    """The document at a place."""
-    context = below(replica.tree, path, "", 0, [])[0]
-    if not context.presences.get(key):
+    """What an expression gives at a replica at a position of these: of a place what is in the document there, of names
+    and of values a list."""
+    found = read_json(served().line_told(positions.text, f"view --at {position} {name} {text}"))
+    if "refused" in found:
+        raise NoValue(why_none(text, name, found["refused"]))
+    value = next((found[part] for part in ("doc", "keys", "values") if part in found), None)
+    if value is None and "doc" not in found:
         raise NoValue("nothing is at this place")
-    return View(texts, replica).place(context, path, key).decode()
+    return value
+
+
+def why_none(text, name, refusal):
+    number = int(refusal["number"])
+    if "offset" in refusal:
+        return f"{text} is no expression: {number} {refusal['name']} at {refusal['offset']}"
+    return f"{text} gives nothing at {name}: {sentence_of(number)}"

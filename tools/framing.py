@@ -23,6 +23,7 @@ except ImportError:
         os.execve(DEBIAN_PYTHON, [DEBIAN_PYTHON, *sys.argv], {**os.environ, TRIED: "yes"})
     stop(f"it needs the library pylsp_jsonrpc: install Debian's package {PACKAGE}")
 os.environ.pop(TRIED, None)
+asking.ask_apart()
 
 
 def short(text):
@@ -104,7 +105,8 @@ def writer():
 def lack_of_program():
     """Why the rules in Python answer in place of the proved program, in a sentence, or nothing where that does."""
     if not asking.is_in_python():
-        return ""
+        has_serve = asking.asked() is not None
+        return "" if has_serve else f"the rules in Python answer in part, unproved: {asking.program()} has no serve"
     if os.environ.get("JSONCRDT"):
         return "the rules in Python answer, as JSONCRDT says; nothing of that is proved"
     return f"the rules in Python answer, unproved: {crates.lack_of_built(asking.ROOT)}"

@@ -3,11 +3,9 @@ document, a variable's value. What comes from the text itself stands in fences."
 
 import asking  # which says where the modules below are
 import functools
-import json
 
 import sections
 from changes import Change, sentences
-from jsoncrdt.oracle.difference import Order, difference
 from layout import laid_out, read_json, shortened, traced
 from jsoncrdt.oracle.refusal import sentence_of
 from rows import Row
@@ -19,7 +17,7 @@ def hover(document, offset):
     """What is shown at an offset, with its range, or none."""
     source = document.source
     header, block = source.named_at(offset), source.block_at(offset)
-    if document.placed.refusal or not (header or block):
+    if document.refusal or not (header or block):
         return None
     if header:
         span, parts = header.name_span, [f"**{header.name}** at the end", *document_of(document, header.name)]
@@ -34,14 +32,15 @@ def hover(document, offset):
 
 def of_item(document, block, number, word):
     """What is shown of a word in a command or an event."""
-    line = document.placed.line_at(block.items[number].start)
+    position = document.placed.position_at(block.items[number].start)
+    line = document.placed.line(position, "--trace", "--effects")
     if block.word == "replica" and word in block.bound():
         return of_variable(document, block, word, line)
     if not line:
         return ["no event executes this" if block.word == "replica" else "the schedule doesn't come to this event"]
     parts = of_event(document, line)
     if block.word != "replica" and word in document.source.replicas and "stuck" not in line:
-        parts += [f"document of {word} behind it", *document_of(document, word, document.placed.position_of(line))]
+        parts += [f"document of {word} behind it", *document_of(document, word, position)]
     return parts
 
 
@@ -59,12 +58,12 @@ def of_event(document, line):
     parts = [title, fenced([shortened(words_of(document, line))])]
     if "stuck" in line:
         return [*parts, sentence_of(line["stuck"])]
-    rules, effects = behaviour(document, line)
-    changed = [said for effect in effects for said in sentences(Change(line, (effect["key"],), effect))]
+    changed = [said for effect in line.get("effects", ()) for said in sentences(Change(line, (effect["key"],), effect))]
     if "op" in line:
         parts += ["changes", fenced(changed)] if changed else ["changes nothing"]
-    names, words = dict.fromkeys(row.split()[1] for row in rules), words_of_rules()
-    return [*parts, "rules", fenced(traced(rules)), "\n".join(f"- {name}: {words[name]}" for name in names)]
+    names, words = dict.fromkeys(name for _, name in line["rules"]), words_of_rules()
+    rules = fenced(traced(f"{depth} {name}" for depth, name in line["rules"]))
+    return [*parts, "rules", rules, "\n".join(f"- {name}: {words[name]}" for name in names)]
 
 
 def words_of(document, line):
@@ -79,36 +78,19 @@ def words_of_rules():
     return {name: rule["words"] for name, rule in sections.rules().items()}
 
 
-def behaviour(document, line):
-    """The rules of an event, each behind its depth, and what it changed: how its replica's tree differs before and
-    behind it, by which effects are defined."""
-    position, replica = document.placed.position_of(line), line["replica"]
-    trees = [f"state {replica}"] if "op" in line else []
-    lines = document.answers([f"goto {position - 1}", *trees, f"goto {position}", *trees, "trace"])
-    begin = next((number for number, row in enumerate(lines) if row.startswith("event ")), len(lines))
-    states = [json.loads(row)["tree"] for row in lines if row.startswith("{")]
-    effects = difference(*states, Order(sorted(document.source.replicas))) if states else []
-    return lines[begin + 1:], effects
-
-
 # ---- documents and variables
 
 def document_of(document, name, position=None):
-    """A replica's document at a position, given events counted too, or at the end."""
-    end = sum(len(block.items) for block in (document.source.given, document.source.schedule) if block)
-    stuck = document.placed.stuck
-    last = document.placed.position_of(stuck) - 1 if stuck else end
-    text = document.one_schedule
-    views = document.questions.views(text, last if position is None else position)
-    found = [read_json(view) for view in views if view.endswith(f'"name":"{name}"}}')]
-    return [fenced(laid_out(view["doc"])) if "doc" in view else "no document" for view in found]
+    """A replica's document at a position, or at the end."""
+    at = document.placed.last if position is None else position
+    view = read_json(document.questions.line(f"view --at {at} {name}"))
+    return [fenced(laid_out(view["doc"])) if "doc" in view else "no document"]
 
 
 def of_variable(document, block, name, line):
     """What a variable is bound to behind a command, where that was executed."""
     if not line or "stuck" in line:
         return [f"**{name}**: no event executes this"]
-    answers = document.answers([f"goto {document.placed.position_of(line)}", f"state {block.name}"])
-    state = json.loads(answers[-1]) if answers[-1].startswith("{") else {"vars": {}}
-    bound = state["vars"].get(name, "not bound")
-    return [f"**{name}** behind {'given ' if 'given' in line else ''}event {line['number']}", fenced(laid_out(bound))]
+    found = document.questions.ask(f"eval --at {document.placed.position_of(line)} {block.name} {name}")
+    bound = laid_out("not bound" if "refused" in found else found)
+    return [f"**{name}** behind {'given ' if 'given' in line else ''}event {line['number']}", fenced(bound)]

@@ -1,4 +1,7 @@
-"""The events of a scenario, as the program's journal tells them, each with its place in the text."""
+"""The events of a scenario, as the program tells them, each with its place in the text. A position is that of `serve`:
+the schedule's events lead to those above 0, given ones to the others."""
+
+import functools
 
 from asking import parts_of
 
@@ -7,25 +10,54 @@ ENDS_COMMAND = ("exec", "done")
 
 
 class Placed:
-    """The journal of a text. Where the text is refused, `refusal` is the line that says so, and there are no events."""
+    """The events of a text that isn't refused."""
 
     def __init__(self, source, questions):
-        self.source = source
-        self.lines, self.refusal = questions.journal(source.text)
-        self.stuck = next((line for line in self.lines[-1:] if "stuck" in line), None)
-        self.by_command, self.ended, self.maker, self.numbered = {}, {}, {}, {}
-        for line in self.lines:
-            self.numbered["given" in line, line["number"]] = line
-            self.follow(line)
+        self.source, self.questions = source, questions
+        self.given = len(source.given.items) if source.given else 0
 
-    def follow(self, line):
-        """Each event that ends a command ends the next of its replica. Behind one that is stuck there is none."""
-        if line["kind"] in ENDS_COMMAND:
-            line["command_place"] = place = line["replica"], self.ended.get(line["replica"], 0)
-            self.by_command[place] = line
-            self.ended[line["replica"]] = place[1] + 1
-        if line["kind"] == "exec" and "op" in line:
-            self.maker[line["op"]["id"]] = line
+    @functools.cached_property
+    def stuck(self):
+        """The journal's line of the first event that is stuck, if one is."""
+        return self.questions.counts().get("stuck") or self.questions.ask("goto end").get("stuck")
+
+    @functools.cached_property
+    def last(self):
+        """The position behind all events that are made."""
+        scheduled = len(self.source.schedule.items) if self.source.schedule else 0
+        return self.position_of(self.stuck) - 1 if self.stuck else scheduled
+
+    @functools.cached_property
+    def ending(self):
+        """For each replica the positions of the events that end its commands, each the next one."""
+        found = {}
+        for position, event in enumerate(self.events(), 1 - self.given):
+            replica, _, rest = event.partition(".")
+            if rest.strip() in ENDS_COMMAND:
+                found.setdefault(replica.strip(), []).append(position)
+        return found
+
+    @functools.cached_property
+    def makers(self):
+        """The journal's lines of the events that made operations, by these."""
+        lines = self.questions.ask("journal")
+        return {line["op"]["id"]: line for line in lines if line["kind"] == "exec" and "op" in line}
+
+    def events(self):
+        """The texts of all events, given ones first."""
+        return [event for block in (self.source.given, self.source.schedule) if block for event in block.texts()]
+
+    def position_of(self, line):
+        """The position to which the event of a journal's line leads."""
+        return line["number"] - (self.given if "given" in line else 0)
+
+    def line(self, position, *flags):
+        """The journal's line of the event that leads to a position, which may be stuck; none where it isn't reached."""
+        if position is None or position > self.last + 1:
+            return None
+        if position == self.last + 1:
+            return self.stuck
+        return self.questions.ask(" ".join(["event", "--at", str(position), *flags]))
 
     def item_of(self, line):
         """The place of an event."""
@@ -34,39 +66,23 @@ class Placed:
 
     def command_of(self, line):
         """The place of the command that an event executes or ends, or none."""
-        replica, number = line.get("command_place", (None, 0))
-        block = self.source.replicas.get(replica)
-        return block.items[number] if block and number < len(block.items) else None
+        block, position = self.source.replicas.get(line["replica"]), self.position_of(line)
+        ending = self.ending.get(line["replica"], [])
+        number = ending.index(position) if position in ending else None
+        return block.items[number] if number is not None and number < len(block.items) else None
 
-    def line_at(self, offset):
-        """The event that is at an offset, or that ended the command there; none where it wasn't reached."""
+    def position_at(self, offset):
+        """The position of the event that is at an offset, or that ends the command there; none where there is none."""
         block = self.source.block_at(offset)
         number = block.number_at(offset) if block else None
         if number is None:
             return None
         if block.word == "replica":
-            return self.by_command.get((block.name, number))
-        return self.numbered.get((block.word == "given", number + 1))
-
-    def position_of(self, line):
-        """The position behind an event where given events and the schedule are one schedule (one_schedule)."""
-        given = len(self.source.given.items) if self.source.given and "given" not in line else 0
-        return given + line["number"]
+            ending = self.ending.get(block.name, [])
+            return ending[number] if number < len(ending) else None
+        return number + 1 - (self.given if block.word == "given" else 0)
 
     def maker_of(self, line):
-        """The event that made the operation of an `apply` or a `take`, or none."""
+        """The line of the event that made the operation of an `apply` or a `take`, or none."""
         parts = parts_of(line["event"])
-        return self.maker.get(f"{parts.counter}@{parts.maker}")
-
-
-def one_schedule(source, block=None, count=None):
-    """The text with given events and the schedule as one schedule, so that a session has positions among given events
-    too; or with those alone that come before an item of one of these blocks, by its number from 0."""
-    blocks = [found for found in (source.given, source.schedule) if found]
-    start = min((found.start for found in blocks), default=len(source.text))
-    events = []
-    for found in blocks:
-        events += found.texts()[:count if found is block else None]
-        if found is block:
-            break
-    return source.text[:start] + b"\nschedule {" + "; ".join(events).encode() + b"}", len(events)
+        return self.makers.get(f"{parts.counter}@{parts.maker}")

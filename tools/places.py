@@ -176,7 +176,3 @@ class Source:
 
     def range(self, start, end):
         return {"start": self.position(start), "end": self.position(end)}
-
-    def end_of_fault(self, offset):
-        """Where that ends which is refused at an offset: a token, or what looks like one, an escape or a character."""
-        return offset + len(spelling_at(self.text, offset)) if offset < len(self.text) else offset

@@ -121,7 +121,8 @@ def needs_room(crates):
     needed = DISK * sum(not is_proved(name) for name in crates)
     if disk < needed:
         raise NotBuilt(f"the disk has {disk / GIGABYTE:.1f} GB free, and the proofs take up to "
-                       f"{needed / GIGABYTE:.1f}: make room, as by rm -rf crates/*/out in copies of the repository that are done with")
+                       f"{needed / GIGABYTE:.1f}: make room, as by rm -rf crates/*/out in copies of the repository "
+                       f"that are done with")
 
 
 def locked(name):

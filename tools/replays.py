@@ -11,7 +11,8 @@ import re
 from collections import namedtuple
 
 from jsoncrdt.oracle.grammar import JSON_NUMBER, MOST_REPLICAS, MOST_SELECTORS, NAME_RUN, RESERVED, Scenario, read
-from jsoncrdt.oracle.rules import (DOC, HEAD, LIST, MAP, Network, Stuck, change, cursor_of, element_key, index_of, make_operation,
+from jsoncrdt.oracle.rules import (DOC, HEAD, LIST, MAP, Network, Stuck, change, cursor_of, element_key, index_of,
+                                   make_operation,
                    name_key)
 from jsoncrdt.oracle.texts import REFUSALS, Texts
 

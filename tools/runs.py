@@ -12,8 +12,7 @@ import json
 import os
 from collections import namedtuple
 
-from asking import asked, is_in_python, program, session, told
-from changes import journal_with_effects
+from asking import asked, is_in_python, journal_of, program, session
 
 # The lines of the events before a position and of those behind it, and the state of each replica there; and for each
 # event behind it that bound a variable, by its index, its replica's state then.
@@ -32,15 +31,6 @@ def one_schedule(scenario, count):
 def lines_of(text):
     """The lines of JSON in a text, which are those that begin with a brace."""
     return [json.loads(line) for line in text.split("\n") if line.startswith("{")]
-
-
-def journal_of(text):
-    """The lines of the journal. The program tells no effects yet: those are told by the rules in Python."""
-    lines = lines_of(told(["journal", "--trace", "-"], text)[0])
-    for line, other in zip(lines, journal_with_effects(text)):
-        if "op" in line:
-            line["effects"] = other["effects"]
-    return lines
 
 
 def binds(line):
@@ -74,7 +64,7 @@ def run_served(scenario, first, count):
 
 def run_by_commands(scenario, first, count):
     text = one_schedule(scenario, count)
-    journal = journal_of(text)
+    journal = journal_of(text, "--trace", "--effects")
     before, lines = journal[:first], journal[first:]
     if before and "stuck" in before[-1]:
         return Run(before, lines, [], {})
@@ -88,8 +78,4 @@ def run_by_commands(scenario, first, count):
 
 def told_by():
     """Who tells of runs, in words. A page may be sent to somebody, so where the program is isn't said."""
-    in_python = "the rules in Python, of which nothing is proved"
-    if is_in_python():
-        return in_python
-    name = os.path.basename(program())
-    return name if asked() else f"{name}; what events changed, by {in_python}"
+    return "the rules in Python, of which nothing is proved" if is_in_python() else os.path.basename(program())

@@ -17,6 +17,7 @@ from .oracle.streams import MOST_FRAMES
 LONGEST_ANSWER, LONGEST_PROBE = 600, 60  # seconds
 PIECE = 1 << 16
 BRINGS = "scenario "
+BROKEN_OFF = "its work was broken off"
 
 
 class Lost(Exception):
@@ -66,6 +67,13 @@ class Answering:
         """Brings a scenario, and gives the answer."""
         return json.loads(self.answer(b"%s%d" % (BRINGS.encode(), len(text)), text))
 
+    def is_ready(self):
+        """Whether what was brought is still there."""
+        return True
+
+    def break_off(self):
+        """Ends at once what is asked by another thread, where that can be done."""
+
     def end(self):
         """Ends what answers."""
 
@@ -93,7 +101,7 @@ class Process(Answering):
     def __init__(self, path, say=None, seconds=LONGEST_ANSWER):
         self.path, self.say, self.seconds = path, say, seconds
         self.process, self.owner, self.read, self.why = None, None, b"", None
-        self.lock = threading.RLock()
+        self.lock, self.is_broken_off = threading.RLock(), False
 
     def start(self):
         if self.why and self.say:
@@ -104,12 +112,14 @@ class Process(Answering):
         except OSError as error:
             raise Lost(f"{self.path}: {error.strerror}") from error
         os.set_blocking(self.process.stdin.fileno(), False)
-        self.owner, self.read, self.why = os.getpid(), b"", None
+        self.owner, self.read, self.why, self.is_broken_off = os.getpid(), b"", None, False
 
     def answer(self, line, text=None):
         with self.lock:
             if self.owner != os.getpid():
                 self.process = None  # it answers the process from which this one was forked
+            elif self.process and self.is_broken_off:
+                self.lose(BROKEN_OFF)
             elif self.process and text is not None and self.process.poll() is not None:
                 self.lose(self.ended())
             if not self.process:
@@ -149,9 +159,18 @@ class Process(Answering):
         status = self.process.wait()
         return f"{self.path} " + (f"ended with {status}" if status >= 0 else f"was killed by signal {-status}")
 
+    def is_ready(self):
+        return bool(self.process) and self.owner == os.getpid() and not self.is_broken_off
+
+    def break_off(self):
+        """Ends the process, and what another thread asks it: that is Lost. It is started anew as it is at first."""
+        process, self.is_broken_off = self.process, True
+        if process:
+            process.kill()
+
     def lose(self, fault):
         """Ends the process, which has given no answer."""
-        self.why = str(fault) or "its work was broken off"
+        self.why = None if self.is_broken_off else str(fault) or BROKEN_OFF
         self.process.kill()
         self.end()
 

@@ -240,7 +240,7 @@ def expressions():
     check("what isn't bound", "nothing gives nothing at p: 22 UnboundVariable: No `let` has bound the variable before: "
           "bind it in an earlier command of the same replica.", why)
     why = client.refused("evaluate", expression="doc.", context="watch", frameId=client.frame(1))
-    check("no expression", "doc. is neither a place nor an expression: 8 EndOfText at 4", why)
+    check("no expression", "doc. is no expression: 8 EndOfText at 4", why)
     client.end()
 
 
@@ -341,7 +341,8 @@ def refusals():
              ":3:11: 7 Unexpected: A token doesn't fit where it is: put one that could be there, or take it out.\n"
              "found `1`, expected a string"),
             (b"jsoncrdt 2 replica a {} given {a.exec}",
-             "refused 44 GivenStuck at 1: 44 GivenStuck: A given event is stuck, so the scenario has no start: mend it, "
+             "refused 44 GivenStuck at 1: 44 GivenStuck: A given event is stuck, so the scenario has no start: mend "
+             "it, "
              "or leave it and those behind it out.\nstuck 30 NoCommand a.exec: 30 NoCommand: The script has ended"),
             (b"jsoncrdt 1 replica a { doc := \"\xff\" }", "13 NotUtf8: The bytes aren't UTF-8"),
             (b"", "14 NoHeader: A scenario begins with")):

@@ -16,7 +16,7 @@ use Rattle.clap.specs.declared.error.kind.ErrorKind.{ErrorKind}
 use Rattle.clap.specs.declared.parser.matches.ValueSource.{ValueSource}
 use Rattle.clap.specs.declared.parser.matches.ValueSource.TheVariants.{DefaultValue, CommandLine}
 use Rattle.clap.specs.declared.builder.value_parser.ValueParser.TheVariants.{Unsigned}
-use Rattle.jc_cli.specs.Program.{file_rule, limit_rule, at_rule, seed_rule, trace_rule}
+use Rattle.jc_cli.specs.Program.{file_rule, flag_rule, limit_rule, at_rule, seed_rule}
 
 -- P holds of each element
 abbrev pub Each : {X : Type 0} → (X → Type 0) → List X → Type 0
@@ -166,8 +166,14 @@ abbrev pub built_file : Rule
 built_file = with_index 1 (filled file_rule)
 
 -- the others, which have no place among the words
+abbrev pub built_flag : Text → Rule
+built_flag name = with_index 1 (filled (flag_rule name))
+
 abbrev pub built_trace : Rule
-built_trace = with_index 1 (filled trace_rule)
+built_trace = built_flag (codes "trace")
+
+abbrev pub built_effects : Rule
+built_effects = built_flag (codes "effects")
 
 abbrev pub built_limit : Rule
 built_limit = with_index 1 (filled limit_rule)
@@ -190,17 +196,25 @@ use_of_file again (v ∷ vs) rows e h = replaced (codes "file") (reading_by buil
 pub sound_file : IsSound built_file
 sound_file = record { by_use = use_of_file; by_default = λ rows h. by_test rows rows (has_row (codes "file") rows) h h }
 
--- a use of the trace has a value, since `true` stands where none is given
-use_of_trace : (again : Bool) (values : List Text) (rows : List Row) → AreReadable rows → AreReadable (used built_trace values rows)
-use_of_trace again [] rows h = replaced (codes "trace") (reading_by built_trace) (codes "true" ∷ []) rows refl h
-use_of_trace again (v ∷ vs) rows h = replaced (codes "trace") (reading_by built_trace) (v ∷ vs) rows refl h
+-- an argument whose name asks for no number has each first value readable
+module _ (name : Text) (any : (v : Text) (vs : List Text) → is_readable name (v ∷ vs) ≡ true) where
+  -- a use of an option without a value has one, since `true` stands where none is given
+  use_of_flag : (values : List Text) (rows : List Row) → AreReadable rows → AreReadable (used (built_flag name) values rows)
+  use_of_flag [] rows h = replaced name (reading_by (built_flag name)) (codes "true" ∷ []) rows (any (codes "true") []) h
+  use_of_flag (v ∷ vs) rows h = replaced name (reading_by (built_flag name)) (v ∷ vs) rows (any v vs) h
 
--- `false` is the trace's default value
+  -- `false` is its default value
+  sound_flag : IsSound (built_flag name)
+  sound_flag = record {
+    by_use = λ again values rows e h. use_of_flag values rows h;
+    by_default = λ rows h. filled_in name (reading_by (built_flag name)) (codes "false" ∷ []) rows (any (codes "false") []) h;
+  }
+
 pub sound_trace : IsSound built_trace
-sound_trace = record {
-  by_use = λ again values rows e h. use_of_trace again values rows h;
-  by_default = λ rows h. filled_in (codes "trace") (reading_by built_trace) (codes "false" ∷ []) rows refl h;
-}
+sound_trace = sound_flag (codes "trace") (λ v vs. refl)
+
+pub sound_effects : IsSound built_effects
+sound_effects = sound_flag (codes "effects") (λ v vs. refl)
 
 -- a use of the limit without a fault has a number from 0 to 100,000
 use_of_limit : (again : Bool) (values : List Text) (rows : List Row) → use_fault again built_limit values rows ≡ [] → AreReadable rows → AreReadable (used built_limit values rows)

@@ -14,11 +14,11 @@ use Rattle.clap.specs.declared.error.kind.ErrorKind.TheVariants as K
 use Rattle.clap.specs.declared.parser.matches.ValueSource.TheVariants.{DefaultValue}
 use Rattle.jc_cli.specs.Laws.{FaultlessAreOrders}
 use Rattle.jc_cli.specs.Program.{bare, journal_app, plain_app, program, run_app, threads_app, view_app, weave_app}
-use Rattle.jc_cli.specs.Arguments.{with_help_meant, is_traced, limit_given, seed_given, weave_by, documents, order_by, order_in, task_in, with_file, words_order}
+use Rattle.jc_cli.specs.Arguments.{with_help_meant, is_traced, has_effects, limit_given, seed_given, weave_by, documents, order_by, order_in, task_in, with_file, words_order}
 use Rattle.jc_cli.specs.declared.order.Task.{Task}
 use Rattle.jc_cli.specs.declared.order.Task.TheVariants.{Show, Debug, Threads, Weave}
 use Rattle.jc_cli.specs.declared.order.View.TheVariants.{Check, Print, Run, Journal}
-use Rattle.jc_cli.proofs.ArgumentsLemmas.{AreReadable, Each, IsSound, built_file, built_at, built_help, built_limit, built_seed, built_trace, failed, first_there, found, given_row, kept_row, neither, row_by_default, sound_at, sound_file, sound_help, sound_limit, sound_seed, sound_trace, unfilled}
+use Rattle.jc_cli.proofs.ArgumentsLemmas.{AreReadable, Each, IsSound, built_file, built_at, built_effects, built_help, built_limit, built_seed, built_trace, failed, first_there, found, given_row, kept_row, neither, row_by_default, sound_at, sound_effects, sound_file, sound_help, sound_limit, sound_seed, sound_trace, unfilled}
 use Rattle.jc_cli.proofs.FaultlessLemmas.{of_level}
 
 -- there is a value
@@ -110,8 +110,10 @@ of_run =
 -- the command `journal`
 of_journal : Orders (command journal_app)
 of_journal =
-    orders_by (command journal_app) (sound_trace, (sound_file, (sound_help, tt))) (λ rows e. was_given (is_given (codes "file") rows) e)
-    (λ before h. (Show (Journal (is_traced (fold with_default before (built_trace ∷ built_file ∷ built_help ∷ [])))), refl))
+    orders_by (command journal_app) (sound_trace, (sound_effects, (sound_file, (sound_help, tt)))) (λ rows e. was_given (is_given (codes "file") rows) e)
+    (λ before h.
+    let rows = fold with_default before (built_trace ∷ built_effects ∷ built_file ∷ built_help ∷ []) in
+    (Show (Journal (is_traced rows) (has_effects rows)), refl))
 
 -- the limit has a row at the end, since it has a default value
 limit_row : (before : List Row) → has_row (codes "limit") (fold with_default before (built_limit ∷ built_file ∷ built_help ∷ [])) ≡ true

@@ -9,7 +9,7 @@ use Rattle.clap.specs.ValueTests.{is_unsigned_in}
 use Rattle.clap.proofs.ValueTestLemmas.{accepts-Accepts, Accepts-accepts}
 use Rattle.clap.specs.Words.{Row, Text, first_of}
 use Rattle.clap.specs.declared.builder.value_parser.ValueParser.TheVariants.{Unsigned}
-use Rattle.jc_cli.specs.Arguments.{is_traced, limit_in, limit_given, seed_in, seed_given, weave_by, order_in, task_in, with_file, documents, HasLimitInRange}
+use Rattle.jc_cli.specs.Arguments.{is_traced, has_effects, limit_in, limit_given, seed_in, seed_given, weave_by, order_in, task_in, with_file, documents, HasLimitInRange}
 use Rattle.jc_cli.specs.declared.order.Order.{Order}
 use Rattle.jc_cli.specs.declared.order.Task.{Task}
 use Rattle.jc_cli.specs.declared.order.Task.TheVariants.{Show, Debug, Threads, Weave}
@@ -89,7 +89,7 @@ of_task name rows =
     (by_test (bytes_eq name (codes "print")) (one (Show Print) tt)
     (by_test (bytes_eq name (codes "run")) (one (Show (Run (is_traced rows))) tt)
     (by_test (bytes_eq name (codes "view")) (of_documents (limit_given rows))
-    (by_test (bytes_eq name (codes "journal")) (one (Show (Journal (is_traced rows))) tt)
+    (by_test (bytes_eq name (codes "journal")) (one (Show (Journal (is_traced rows) (has_effects rows))) tt)
     (by_test (bytes_eq name (codes "debug")) (one Debug tt)
     (by_test (bytes_eq name (codes "threads")) (of_rows rows)
     (by_test (bytes_eq name (codes "weave")) (of_weave (seed_given rows) (limit_given rows) (given_in_range rows)) none)))))))

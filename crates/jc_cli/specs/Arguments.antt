@@ -16,8 +16,15 @@ use Rattle.jc_cli.specs.declared.order.View.TheVariants.{Check, Print, Run, Docu
 use Rattle.jc_cli.specs.declared.fault.WordsFault.{WordsFault}
 use Rattle.jc_cli.specs.declared.fault.WordsFault.TheVariants.{Help, Usage, Memory}
 
+-- whether the option with this name, which takes no value, is given
+abbrev pub has_flag : Text → List Row → Bool
+has_flag name rows = bytes_eq (unwrap_or (first_of name rows) []) (codes "true")
+
 abbrev pub is_traced : List Row → Bool
-is_traced rows = bytes_eq (unwrap_or (first_of (codes "trace") rows) []) (codes "true")
+is_traced = has_flag (codes "trace")
+
+abbrev pub has_effects : List Row → Bool
+has_effects = has_flag (codes "effects")
 
 -- the number of a text that is one from 0 to 100,000, the greatest limit of each command that has one
 abbrev pub limit_in : Text → Option ℕ
@@ -52,7 +59,7 @@ task_in name rows =
     else (if bytes_eq name (codes "print") then Some (Show Print)
     else (if bytes_eq name (codes "run") then Some (Show (Run (is_traced rows)))
     else (if bytes_eq name (codes "view") then option_map documents (limit_given rows)
-    else (if bytes_eq name (codes "journal") then Some (Show (Journal (is_traced rows)))
+    else (if bytes_eq name (codes "journal") then Some (Show (Journal (is_traced rows) (has_effects rows)))
     else (if bytes_eq name (codes "debug") then Some Debug
     else (if bytes_eq name (codes "threads") then option_map Threads (limit_given rows)
     else (if bytes_eq name (codes "weave") then weave_by (seed_given rows) (limit_given rows)

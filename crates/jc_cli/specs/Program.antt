@@ -14,8 +14,15 @@ IsLocal c = (out-Command c).has_globals ≡ false
 abbrev pub file_rule : Rule
 file_rule = record (new_rule (codes "file")) { required = true; value_names = 1 }
 
+-- an option that takes no value
+abbrev pub flag_rule : Text → Rule
+flag_rule name = record (new_rule name) { long = Some name; action = Some SetTrue }
+
 abbrev pub trace_rule : Rule
-trace_rule = record (new_rule (codes "trace")) { long = Some (codes "trace"); action = Some SetTrue }
+trace_rule = flag_rule (codes "trace")
+
+abbrev pub effects_rule : Rule
+effects_rule = flag_rule (codes "effects")
 
 -- a number from 0 to 100,000, by default 10,000
 abbrev pub limit_rule : Rule
@@ -46,7 +53,7 @@ abbrev pub view_app : App
 view_app = with_rule (with_rule (new_app (codes "view")) at_rule) file_rule
 
 abbrev pub journal_app : App
-journal_app = with_rule (with_rule (new_app (codes "journal")) trace_rule) file_rule
+journal_app = with_rule (with_rule (with_rule (new_app (codes "journal")) trace_rule) effects_rule) file_rule
 
 abbrev pub threads_app : App
 threads_app = with_rule (with_rule (new_app (codes "threads")) limit_rule) file_rule

@@ -3,7 +3,7 @@
 
 ghost use Rattle.std.specs.Prelude.{◌≡◌, IfOk, false};
 ghost use Rattle.clap.specs.Words.{app_of, rule_of, new_app, with_rule};
-ghost use Rattle.jc_cli.specs.Program.{IsLocal, file_rule, limit_rule, seed_rule, plain_app, run_app, view_app, journal_app, threads_app, weave_app, program};
+ghost use Rattle.jc_cli.specs.Program.{IsLocal, file_rule, trace_rule, effects_rule, limit_rule, seed_rule, plain_app, run_app, view_app, journal_app, threads_app, weave_app, program};
 
 use crate::help::{
     ABOUT, CHECK, DEBUG, JOURNAL, PRINT, PROGRAM, RUN, THREADS, USAGE, VERSION, VIEW, WEAVE,
@@ -74,20 +74,39 @@ fn view<'a>(alloc: Global) -> Result<Command<'a>, AllocError>
         .arg(file(alloc))
 }
 
+/// The option of a journal for the rules.
+fn journal_trace<'a>(alloc: Global) -> Arg<'a>
+    ensures rule { rule_of result ≡ trace_rule }
+    ensures local { result.global ≡ false }
+{
+    Arg::new(alloc, "trace")
+        .long("trace")
+        .help("Print the rules that each event used, in its line (this may be long)")
+        .action(ArgAction::SetTrue)
+}
+
+/// The option of a journal for the effects.
+fn journal_effects<'a>(alloc: Global) -> Arg<'a>
+    ensures rule { rule_of result ≡ effects_rule }
+    ensures local { result.global ≡ false }
+{
+    Arg::new(alloc, "effects")
+        .long("effects")
+        .help("Print what each event changed in the tree of its replica, in its line")
+        .action(ArgAction::SetTrue)
+}
+
 fn journal<'a>(alloc: Global) -> Result<Command<'a>, AllocError>
     ensures shape { IfOk result (λ c. app_of c ≡ journal_app) }
     ensures local { IfOk result IsLocal }
 {
-    let trace = Arg::new(alloc, "trace")
-        .long("trace")
-        .help("Print the rules that each event used, in its line (this may be long)")
-        .action(ArgAction::SetTrue);
     Command::new(alloc, "journal")
         .about(
             "Execute the schedule, and print a line of JSON for each event, with its operation in full",
         )
         .after_help(JOURNAL)
-        .arg(trace)?
+        .arg(journal_trace(alloc))?
+        .arg(journal_effects(alloc))?
         .arg(file(alloc))
 }
 

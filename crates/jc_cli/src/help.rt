@@ -173,6 +173,8 @@ echo 'jsoncrdt 1 replica a { doc.get(\"a\") := 1 } schedule { a.exec }' | jsoncr
 prints the line of its only event:\n  \
 {\"command\":\"doc.get(\\\"a\\\") := 1\",\"event\":\"a.exec\",\"kind\":\"exec\",\"number\":1,\"op\":{\"cursor\":[\"mapT(doc)\",\"\\\"a\\\"\"],\"deps\":{},\"id\":\"1@a\",\"mutation\":\"assign\",\"value\":{\"n\":\"1\"}},\"replica\":\"a\"}\n\
 With --trace each line has the rules of its event too, each with its depth.\n\
+With --effects each line that has an operation has what this changed in its replica's tree, here\n  \
+\"effects\":[{\"gained\":[\"1@a\"],\"key\":\"doc\",\"made\":[\"map\"],\"map\":[{\"gained\":[\"1@a\"],\"key\":\"\\\"a\\\"\",\"made\":[\"register\"],\"shown\":true,\"written\":[[\"1@a\",{\"n\":\"1\"}]]}],\"shown\":true}]\n\
 \n\
 Statuses:\n  \
 0  done, also after help\n  \

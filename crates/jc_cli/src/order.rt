@@ -23,6 +23,8 @@ pub enum View {
     Journal {
         /// Whether each line has the rules of its event.
         trace: bool,
+        /// Whether each line that has an operation has what it changed.
+        effects: bool,
     },
 }
 

@@ -6,7 +6,7 @@ ghost use Rattle.std.specs.Str.{bytes_eq};
 ghost use Rattle.clap.specs.Words.{FailsBy, fault_of, first_of, found_of, rows_of, subcommand_of, subcommand_rows_of};
 ghost use Rattle.jc_cli.specs.Program.{program};
 ghost use Rattle.jc_cli.specs.declared.fault.WordsFault.TheVariants.{Memory as NoMemory};
-ghost use Rattle.jc_cli.specs.Arguments.{is_traced, limit_in, limit_given, seed_in, seed_given, weave_by, task_in, order_in, asked_of, with_help_meant, words_order, AsksHelp, HasLimitInRange, HasText, IsFaultless, IsWordsFault};
+ghost use Rattle.jc_cli.specs.Arguments.{has_flag, is_traced, has_effects, limit_in, limit_given, seed_in, seed_given, weave_by, task_in, order_in, asked_of, with_help_meant, words_order, AsksHelp, HasLimitInRange, HasText, IsFaultless, IsWordsFault};
 
 use crate::definition::definition;
 use crate::fault::{WordsFault, fault_by};
@@ -78,11 +78,11 @@ fn matches_of<'a>(alloc: Global, words: &'a [&'a str]) -> Result<ArgMatches<'a>,
     definition(alloc)?.try_get_matches_from(words)
 }
 
-/// Whether `--trace` is given.
-fn has_trace(matches: &ArgMatches<'_>) -> bool
-    ensures { result ≡ is_traced (rows_of (found_of matches.now)) }
+/// Whether the option with this name, which takes no value, is given.
+fn has_flag(matches: &ArgMatches<'_>, name: &str) -> bool
+    ensures { result ≡ has_flag name.now (rows_of (found_of matches.now)) }
 {
-    match matches.get_str("trace") {
+    match matches.get_str(name) {
         Some(text) => text == "true",
         None => false,
     }
@@ -146,14 +146,15 @@ fn task_of(name: &str, matches: &ArgMatches<'_>) -> Option<Task>
         "check" => Some(Task::Show(View::Check)),
         "print" => Some(Task::Show(View::Print)),
         "run" => Some(Task::Show(View::Run {
-            trace: has_trace(matches),
+            trace: has_flag(matches, "trace"),
         })),
         "view" => match limit_of(matches) {
             Some(events) => Some(Task::Show(View::Document { events })),
             None => None,
         },
         "journal" => Some(Task::Show(View::Journal {
-            trace: has_trace(matches),
+            trace: has_flag(matches, "trace"),
+            effects: has_flag(matches, "effects"),
         })),
         "debug" => Some(Task::Debug),
         "threads" => match limit_of(matches) {

@@ -14,6 +14,8 @@ enum Taken {
     View(u64),
     Journal,
     JournalWithTrace,
+    JournalWithEffects,
+    JournalWithBoth,
     Debug,
     Threads(u64),
     Weave(u64, u64),
@@ -31,6 +33,15 @@ fn said(alloc: Global, words: &[&str]) -> Result<Vec<String>, AllocError> {
     Ok(said)
 }
 
+fn journal_by(trace: bool, effects: bool) -> Taken {
+    match (trace, effects) {
+        (false, false) => Taken::Journal,
+        (true, false) => Taken::JournalWithTrace,
+        (false, true) => Taken::JournalWithEffects,
+        (true, true) => Taken::JournalWithBoth,
+    }
+}
+
 fn task_of(order: &Order) -> Taken {
     match order.task {
         Task::Show(View::Check) => Taken::Check,
@@ -38,8 +49,7 @@ fn task_of(order: &Order) -> Taken {
         Task::Show(View::Run { trace: false }) => Taken::Run,
         Task::Show(View::Run { trace: true }) => Taken::RunWithTrace,
         Task::Show(View::Document { events }) => Taken::View(events),
-        Task::Show(View::Journal { trace: false }) => Taken::Journal,
-        Task::Show(View::Journal { trace: true }) => Taken::JournalWithTrace,
+        Task::Show(View::Journal { trace, effects }) => journal_by(trace, effects),
         Task::Debug => Taken::Debug,
         Task::Threads { limit } => Taken::Threads(limit),
         Task::Weave { seed, limit } => Taken::Weave(seed, limit),
@@ -81,6 +91,32 @@ const WORDS: &[(&[&str], Taken, &str)] = &[
     (&["journal", "-"], Taken::Journal, "-"),
     (&["journal", "--trace", "x"], Taken::JournalWithTrace, "x"),
     (&["journal", "x", "--trace"], Taken::JournalWithTrace, "x"),
+    (
+        &["journal", "--effects", "-"],
+        Taken::JournalWithEffects,
+        "-",
+    ),
+    (
+        &["journal", "x", "--effects"],
+        Taken::JournalWithEffects,
+        "x",
+    ),
+    (
+        &["journal", "--effects", "--trace", "x"],
+        Taken::JournalWithBoth,
+        "x",
+    ),
+    (
+        &["journal", "--trace", "--effects", "a b"],
+        Taken::JournalWithBoth,
+        "a b",
+    ),
+    (
+        &["journal", "--trace", "x", "--effects"],
+        Taken::JournalWithBoth,
+        "x",
+    ),
+    (&["journal", "--", "--effects"], Taken::Journal, "--effects"),
     (&["debug", "-"], Taken::Debug, "-"),
     (&["debug", "a b"], Taken::Debug, "a b"),
     (&["--help"], Taken::Help, ""),
@@ -107,6 +143,24 @@ const WORDS: &[(&[&str], Taken, &str)] = &[
     (&["journal"], Taken::Usage, ""),
     (&["journal", "--at", "1", "x"], Taken::Usage, ""),
     (&["journal", "--trace=yes", "x"], Taken::Usage, ""),
+    (&["journal", "--effects"], Taken::Usage, ""),
+    (
+        &["journal", "--effects", "--effects", "x"],
+        Taken::Usage,
+        "",
+    ),
+    (
+        &["journal", "--effects", "x", "--effects"],
+        Taken::Usage,
+        "",
+    ),
+    (&["journal", "--effects=x", "x"], Taken::Usage, ""),
+    (&["journal", "--effect", "x"], Taken::Usage, ""),
+    (&["run", "--effects", "x"], Taken::Usage, ""),
+    (&["run", "--trace", "--effects", "x"], Taken::Usage, ""),
+    (&["view", "--effects", "x"], Taken::Usage, ""),
+    (&["check", "--effects", "x"], Taken::Usage, ""),
+    (&["debug", "--effects", "x"], Taken::Usage, ""),
     (&["run", "--at", "5", "x"], Taken::Usage, ""),
     (&["help"], Taken::Help, ""),
     (&["help", "run"], Taken::Help, ""),
@@ -265,6 +319,11 @@ const CALLS: &[(&[&str], &[&str], &str)] = &[
         &["help", "journal"],
         &["journal", "--help"],
         "{\"command\":\"doc.get(\\\"a\\\") := 1\",\"event\":\"a.exec\",\"kind\":\"exec\",\"number\":1,",
+    ),
+    (
+        &["help", "journal", "--effects"],
+        &["journal", "-h"],
+        "      --effects  Print what each event changed in the tree of its replica, in its line\n",
     ),
     (
         &["help", "debug"],

@@ -7,8 +7,8 @@ use Rattle.jc_debug.specs.declared.fault.GotoFault.{GotoFault}
 use Rattle.jc_debug.specs.declared.fault.GotoFault.TheVariants as G
 use Rattle.jc_debug.specs.declared.fault.Halt.{Halt}
 use Rattle.jc_debug.specs.declared.fault.Halt.TheVariants as H
-use Rattle.jc_debug.specs.declared.fault.StepFault.{StepFault}
-use Rattle.jc_debug.specs.declared.fault.StepFault.TheVariants as S
+use Rattle.jc_debug.specs.declared.fault.DebugStepFault.{DebugStepFault}
+use Rattle.jc_debug.specs.declared.fault.DebugStepFault.TheVariants as S
 use Rattle.jc_debug.specs.Moves.{IsToldAt, MoveStopsAt, IsNextHalted, IsHalted, IsStepFault, IsGotoFault, step_fault, goto_fault}
 use Rattle.jc_debug.specs.Invariant.{Seen, IsDebugger, IsMoved, start_of}
 use Rattle.jc_debug.proofs.InvariantLemmas.{is_at, carried}
@@ -38,9 +38,9 @@ halted old now new n to (H.Stuck s) m le lt told e = (n, stops_at old now new n 
 
 -- ---- the refusals of the calls
 
-pub step_halted : (old new : Seen) (to : ℕ) (halt : Halt) (fault : StepFault) → fault ≡ step_fault halt → IsHalted old new to halt → IsStepFault old new to fault
-step_halted old new to (H.Stuck s) fault e h = subst (λ (f : StepFault). IsStepFault old new to f) (sym e) h
-step_halted old new to (H.Memory at) fault e h = subst (λ (f : StepFault). IsStepFault old new to f) (sym e) (at, h)
+pub step_halted : (old new : Seen) (to : ℕ) (halt : Halt) (fault : DebugStepFault) → fault ≡ step_fault halt → IsHalted old new to halt → IsStepFault old new to fault
+step_halted old new to (H.Stuck s) fault e h = subst (λ (f : DebugStepFault). IsStepFault old new to f) (sym e) h
+step_halted old new to (H.Memory at) fault e h = subst (λ (f : DebugStepFault). IsStepFault old new to f) (sym e) (at, h)
 
 pub never_at_end : (halt : Halt) → step_fault halt ≡ S.AtEnd → ⊥
 never_at_end (H.Stuck s) e = cc

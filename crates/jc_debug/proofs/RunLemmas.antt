@@ -3,7 +3,7 @@ use Rattle.std.proofs.Common.{◌≡◌, ℕ, ◌+◌, ◌<◌, ◌≤◌, lengt
 use Rattle.jc_network.specs.declared.fault.Stuck.{Stuck}
 use Rattle.jc_debug.specs.declared.fault.Halt.TheVariants as H
 use Rattle.jc_debug.specs.declared.fault.RunEnd.TheVariants as E
-use Rattle.jc_debug.specs.declared.fault.RunFault.TheVariants as R
+use Rattle.jc_debug.specs.declared.fault.DebugRunFault.TheVariants as R
 use Rattle.jc_debug.specs.Moves.{IsNextHalted, RunMoves, IsDebugRunFault}
 use Rattle.jc_debug.specs.DebuggerState.{NamesAt, IsFree, IsLeast, breaks, sticks, ends}
 use Rattle.jc_debug.specs.Invariant.{Seen, IsDebugger, IsMoved, start_of, session_of}

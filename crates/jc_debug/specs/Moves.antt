@@ -12,16 +12,16 @@ use Rattle.jc_debug.specs.declared.breaks.BreakFault.{BreakFault}
 use Rattle.jc_debug.specs.declared.breaks.BreakFault.TheVariants as B
 use Rattle.jc_debug.specs.declared.fault.ActFault.{ActFault}
 use Rattle.jc_debug.specs.declared.fault.ActFault.TheVariants as A
-use Rattle.jc_debug.specs.declared.fault.StepFault.{StepFault}
-use Rattle.jc_debug.specs.declared.fault.StepFault.TheVariants as S
+use Rattle.jc_debug.specs.declared.fault.DebugStepFault.{DebugStepFault}
+use Rattle.jc_debug.specs.declared.fault.DebugStepFault.TheVariants as S
 use Rattle.jc_debug.specs.declared.fault.GotoFault.{GotoFault}
 use Rattle.jc_debug.specs.declared.fault.GotoFault.TheVariants as G
 use Rattle.jc_debug.specs.declared.fault.Halt.{Halt}
 use Rattle.jc_debug.specs.declared.fault.Halt.TheVariants as H
 use Rattle.jc_debug.specs.declared.fault.RunEnd.{RunEnd}
 use Rattle.jc_debug.specs.declared.fault.RunEnd.TheVariants as E
-use Rattle.jc_debug.specs.declared.fault.RunFault.{RunFault}
-use Rattle.jc_debug.specs.declared.fault.RunFault.TheVariants as R
+use Rattle.jc_debug.specs.declared.fault.DebugRunFault.{DebugRunFault}
+use Rattle.jc_debug.specs.declared.fault.DebugRunFault.TheVariants as R
 use Rattle.jc_debug.specs.DebuggerState.{IsNetworkAt, IsStuckAt, MakesEvent, IsFree, IsLeast, RunOutcome, breaks, sticks, ends, Runs, acted}
 use Rattle.jc_debug.specs.Invariant.{Seen, IsMoved, start_of, session_of, placed_in}
 
@@ -52,7 +52,7 @@ IsHalted old new to (H.Stuck s) = (n : ℕ) × MoveStopsAt old new to n × IsTol
 IsHalted old new to (H.Memory at) = MoveStopsAt old new to at
 
 -- Why a step ended early; at `AtEnd` nothing moved.
-abbrev pub IsStepFault : Seen → Seen → ℕ → StepFault → Type 0
+abbrev pub IsStepFault : Seen → Seen → ℕ → DebugStepFault → Type 0
 IsStepFault old new to (S.Stuck s) = IsHalted old new to (H.Stuck s)
 IsStepFault old new to S.Memory = (n : ℕ) × MoveStopsAt old new to n
 IsStepFault old new to S.AtEnd = new ≡ old
@@ -63,7 +63,7 @@ IsGotoFault old new to (G.Stuck s) = IsHalted old new to (H.Stuck s)
 IsGotoFault old new to G.Memory = (n : ℕ) × MoveStopsAt old new to n
 IsGotoFault old new to G.PastSchedule = new ≡ old
 
-abbrev pub step_fault : Halt → StepFault
+abbrev pub step_fault : Halt → DebugStepFault
 step_fault (H.Stuck s) = S.Stuck s
 step_fault (H.Memory at) = S.Memory
 
@@ -95,7 +95,7 @@ pub record RunMoves (old new : Seen) (end : RunEnd) : Type 0 where
   pub runs : Runs (start_of old) (session_of old) position outcome
 
 -- A run for which there was no memory: no breakpoint names a later position up to where it stopped.
-abbrev pub IsDebugRunFault : Seen → Seen → RunFault → Type 0
+abbrev pub IsDebugRunFault : Seen → Seen → DebugRunFault → Type 0
 IsDebugRunFault old new R.Memory =
     (n : ℕ)
     × MoveStopsAt old new (length old.schedule) n

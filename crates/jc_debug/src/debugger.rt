@@ -12,16 +12,16 @@ ghost use Rattle.jc_debug.specs.declared.breaks.Break.TheVariants as Kind;
 ghost use Rattle.jc_debug.specs.declared.breaks.BreakFault.TheVariants as B;
 ghost use Rattle.jc_debug.specs.declared.fault.ActFault.TheVariants as A;
 ghost use Rattle.jc_debug.specs.declared.fault.GotoFault.TheVariants as G;
-ghost use Rattle.jc_debug.specs.declared.fault.RunFault.TheVariants as R;
-ghost use Rattle.jc_debug.specs.declared.fault.StepFault.TheVariants as S;
+ghost use Rattle.jc_debug.specs.declared.fault.DebugRunFault.TheVariants as R;
+ghost use Rattle.jc_debug.specs.declared.fault.DebugStepFault.TheVariants as S;
 ghost use Rattle.jc_debug.specs.Moves.{IsNextHalted, IsHalted, IsStepFault, IsGotoFault, IsTraceOf, RunMoves, IsDebugRunFault, IsActed, IsActFault, IsSet, IsCleared, IsNoBreak};
 ghost use Rattle.jc_debug.specs.DebuggerState.{IsNetworkAt, Names, NamesAt, IsFree, IsLeast, HasRule, new_session};
 ghost use Rattle.jc_debug.specs.Invariant.{IsDebugger, IsMoved, start_of, session_of, placed_in};
 
 use crate::breaks::{Break, BreakFault};
-use crate::fault::{ActFault, GotoFault, Halt, RunEnd, RunFault, StepFault};
+use crate::fault::{ActFault, DebugRunFault, DebugStepFault, GotoFault, Halt, RunEnd};
 use crate::traces::Traces;
-use jc_network::{Net, StartFault, StepFault as NetFault};
+use jc_network::{Net, StartFault, StepFault};
 use jc_rules::limits::{MAX_BREAKS, MAX_EVENTS};
 use jc_rules::{Event, Rule};
 use jc_scenario::Scenario;
@@ -125,17 +125,17 @@ impl Debugger {
 
     /// Makes the next n events. It is refused with `AtEnd` where the schedule has fewer left, and then nothing moves.
     /// After another refusal the debugger is before the event that is stuck, or for which there was no memory.
-    pub fn step(&mut self, n: u64) -> Result<(), StepFault>
+    pub fn step(&mut self, n: u64) -> Result<(), DebugStepFault>
         ensures ok { OnOk result (IsMoved self.old self.new (length self.old.traces + n)) }
         ensures end { IsErrOf result S.AtEnd ↔ (length self.old.schedule < length self.old.traces + n) }
         ensures err { IfErr result (IsStepFault self.old self.new (length self.old.traces + n)) }
     {
         if n > self.events() - self.position() {
-            return Err(StepFault::AtEnd);
+            return Err(DebugStepFault::AtEnd);
         }
         match self.advance(n) {
             Ok(()) => Ok(()),
-            Err(halt) => Err(StepFault::from(halt)),
+            Err(halt) => Err(DebugStepFault::from(halt)),
         }
     }
 
@@ -180,7 +180,7 @@ impl Debugger {
     /// Makes events up to the first of: a later position that a breakpoint names, an event that is stuck, the
     /// schedule's end. It is refused with `AtEnd` where it is at the end already. Where there was no memory it is
     /// before the event that wasn't made.
-    pub fn run(&mut self) -> Result<RunEnd, RunFault>
+    pub fn run(&mut self) -> Result<RunEnd, DebugRunFault>
         ensures ok { IfOk result (RunMoves self.old self.new) }
         ensures end { IsErrOf result R.AtEnd ↔ (length self.old.traces ≡ length self.old.schedule) }
         ensures err { IfErr result (IsDebugRunFault self.old self.new) }
@@ -188,13 +188,13 @@ impl Debugger {
         let here = self.position();
         let end = self.events();
         if here == end {
-            return Err(RunFault::AtEnd);
+            return Err(DebugRunFault::AtEnd);
         }
         for _position in here..end {
             match self.forward() {
                 Ok(()) => {}
                 Err(Halt::Stuck(stuck)) => return Ok(RunEnd::Stuck(stuck)),
-                Err(Halt::Memory { at: _ }) => return Err(RunFault::Memory),
+                Err(Halt::Memory { at: _ }) => return Err(DebugRunFault::Memory),
             }
             if let Some(j) = self.named() {
                 return Ok(RunEnd::Break(j as u16 + 1));
@@ -221,9 +221,9 @@ impl Debugger {
         }
         let trace = match self.net.step(event) {
             Ok(trace) => trace,
-            Err(NetFault::Full) => unreachable!(),
-            Err(NetFault::Stuck(stuck)) => return Err(ActFault::Stuck(stuck)),
-            Err(NetFault::Memory) => return Err(ActFault::Memory),
+            Err(StepFault::Full) => unreachable!(),
+            Err(StepFault::Stuck(stuck)) => return Err(ActFault::Stuck(stuck)),
+            Err(StepFault::Memory) => return Err(ActFault::Memory),
         };
         if self.traces.push(&trace).is_err() {
             let _ = self.net.undo();
@@ -304,9 +304,9 @@ impl Debugger {
         let event = self.schedule[self.traces.len()];
         let trace = match self.net.step(&event) {
             Ok(trace) => trace,
-            Err(NetFault::Full) => unreachable!(),
-            Err(NetFault::Stuck(stuck)) => return Err(Halt::Stuck(stuck)),
-            Err(NetFault::Memory) => return Err(Halt::Memory { at }),
+            Err(StepFault::Full) => unreachable!(),
+            Err(StepFault::Stuck(stuck)) => return Err(Halt::Stuck(stuck)),
+            Err(StepFault::Memory) => return Err(Halt::Memory { at }),
         };
         if self.traces.push(&trace).is_err() {
             let _ = self.net.undo();

@@ -15,7 +15,7 @@ pub(crate) enum Halt {
 
 /// Why a step didn't make all events.
 #[derive(Drop)]
-pub enum StepFault {
+pub enum DebugStepFault {
     /// The schedule has fewer events left. Nothing moved.
     AtEnd,
     /// The next event can't be made.
@@ -24,20 +24,20 @@ pub enum StepFault {
     Memory,
 }
 
-impl StepFault {
+impl DebugStepFault {
     /// A copy.
     pub fn copy(&self) -> Result<Self, AllocError>
         ensures { IfOk result (λ fault. fault ≡ self.now) }
     {
         match self {
-            StepFault::AtEnd => Ok(StepFault::AtEnd),
-            StepFault::Stuck(stuck) => Ok(StepFault::Stuck(stuck.copy()?)),
-            StepFault::Memory => Ok(StepFault::Memory),
+            DebugStepFault::AtEnd => Ok(DebugStepFault::AtEnd),
+            DebugStepFault::Stuck(stuck) => Ok(DebugStepFault::Stuck(stuck.copy()?)),
+            DebugStepFault::Memory => Ok(DebugStepFault::Memory),
         }
     }
 }
 
-impl From<Halt> for StepFault {
+impl From<Halt> for DebugStepFault {
     ghost use Rattle.std.specs.Prelude.{◌≡◌};
     ghost use Rattle.jc_debug.specs.Moves.{step_fault};
 
@@ -45,8 +45,8 @@ impl From<Halt> for StepFault {
 
     fn from(halt: Halt) -> Self {
         match halt {
-            Halt::Stuck(stuck) => StepFault::Stuck(stuck),
-            Halt::Memory { at: _ } => StepFault::Memory,
+            Halt::Stuck(stuck) => DebugStepFault::Stuck(stuck),
+            Halt::Memory { at: _ } => DebugStepFault::Memory,
         }
     }
 }
@@ -115,7 +115,7 @@ impl RunEnd {
 
 /// Why a run didn't start or go on.
 #[derive(Clone, Copy)]
-pub enum RunFault {
+pub enum DebugRunFault {
     /// No event was left. Nothing moved.
     AtEnd,
     /// There was no memory for the next event.

@@ -10,4 +10,4 @@ mod traces;
 
 pub use breaks::{Break, BreakFault};
 pub use debugger::Debugger;
-pub use fault::{ActFault, GotoFault, RunEnd, RunFault, StepFault};
+pub use fault::{ActFault, DebugRunFault, DebugStepFault, GotoFault, RunEnd};

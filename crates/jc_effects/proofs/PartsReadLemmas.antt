@@ -29,7 +29,7 @@ use Rattle.jc_tree.proofs.WellFormedLemmas.{presence_rises, register_kept}
 use Rattle.jc_meaning.specs.Seen.{context_or_new, seen, ids_of_some, ids_at, reg_at, has_tag}
 use Rattle.jc_meaning.proofs.ComparedContextsLemmas.{stands_below}
 use Rattle.jc_meaning.proofs.SeenLemmas.{node_seen}
-use Rattle.jc_effects.specs.Parts.{IsNamed}
+use Rattle.jc_effects.specs.Parts.{IsNameOf}
 
 -- where there is a context, it is seen
 pub seen_here : (at : List Tagged) (t : Tree) → HasPlace at t → seen at t.now ≡ here at t
@@ -187,7 +187,7 @@ none_below (t ∷ ts) u c h = go (content t c) refl h (λ b e. none_below ts u b
     go (Some (Values r)) g e ih = rw g refl
     go (Some (Node b)) g e ih = rw g (ih b (rw g at e))
 
-pub named_below : (names : Place → List Tagged → Type 0) (t : Tree) (at : List Tagged) (u : Tagged) (o : Option Place) → HasPlace at t → is_some o ≡ is_some (node_in (content u (here at t))) → ((p : Place) → o ≡ Some p → names p (at ++ u ∷ [])) → IsNamed names t (at ++ u ∷ []) o
+pub named_below : (names : Place → List Tagged → Type 0) (t : Tree) (at : List Tagged) (u : Tagged) (o : Option Place) → HasPlace at t → is_some o ≡ is_some (node_in (content u (here at t))) → ((p : Place) → o ≡ Some p → names p (at ++ u ∷ [])) → IsNameOf names t (at ++ u ∷ []) o
 named_below names t at u (Some p) h e n = (λ f. go (node_in (content u (here at t))) (sym (child_at at u t.now (here at t) (content u (here at t)) (there at t.now h) refl) ∙ f) e, n p refl)
   where
     go : (x : Option Context) → x ≡ None → true ≡ is_some x → ⊥
@@ -199,7 +199,7 @@ named_below names t at u None h e n = child_at at u t.now (here at t) (content u
     go None g = refl
     go (Some d) g = no_truth g
 
-pub unnamed_below : (names : Place → List Tagged → Type 0) (t : Tree) (at : List Tagged) (u : Tagged) → node_at at t.now ≡ None → IsNamed names t (at ++ u ∷ []) None
+pub unnamed_below : (names : Place → List Tagged → Type 0) (t : Tree) (at : List Tagged) (u : Tagged) → node_at at t.now ≡ None → IsNameOf names t (at ++ u ∷ []) None
 unnamed_below names t at u h = none_below at u t.now h
 
 -- what stands below a context is smaller

@@ -14,7 +14,7 @@ use Rattle.jc_view.proofs.TokensLemmas.{gains_nothing, gains_then, gains_between
 use Rattle.jc_effects.specs.declared.own.Tags.{Tags}
 use Rattle.jc_effects.specs.Difference.{OwnDifference, Differences, no_difference, difference, is_no_difference}
 use Rattle.jc_effects.specs.EffectsJson.{Labelled, as_members, as_items, some_items, some_tags, tag_word, place_members, place_items}
-use Rattle.jc_effects.specs.Parts.{labelled_tokens, items_front, first_tokens, tags_made, front_members, middle_members, back_members}
+use Rattle.jc_effects.specs.Parts.{labelled_tokens, item_tokens, first_place_tokens, tags_made, front_members, middle_members, back_members}
 
 -- ---- members
 
@@ -47,12 +47,12 @@ abbrev pub is_no_item : Items → Bool
 is_no_item no_items = true
 is_no_item (item j js) = false
 
-items_end : (js : Items) → items_tokens js ≡ items_front js ++ T.end_array ∷ []
+items_end : (js : Items) → items_tokens js ≡ item_tokens js ++ T.end_array ∷ []
 items_end no_items = refl
-items_end (item j js) = ap (λ (ts : List Token). json_tokens j ++ ts) (items_end js) ∙ sym (append_assoc (json_tokens j) (items_front js) (T.end_array ∷ []))
+items_end (item j js) = ap (λ (ts : List Token). json_tokens j ++ ts) (items_end js) ∙ sym (append_assoc (json_tokens j) (item_tokens js) (T.end_array ∷ []))
 
-pub array_written : (a b c d : Written) (js : Items) → Gains a b (T.begin_array ∷ []) → Gains b c (items_front js) → Gains c d (T.end_array ∷ []) → Gains a d (json_tokens (array js))
-array_written a b c d js f g h = gains_between a b c d T.begin_array T.end_array (items_front js) (json_tokens (array js)) (ap (λ (ts : List Token). T.begin_array ∷ ts) (items_end js)) f g h
+pub array_written : (a b c d : Written) (js : Items) → Gains a b (T.begin_array ∷ []) → Gains b c (item_tokens js) → Gains c d (T.end_array ∷ []) → Gains a d (json_tokens (array js))
+array_written a b c d js f g h = gains_between a b c d T.begin_array T.end_array (item_tokens js) (json_tokens (array js)) (ap (λ (ts : List Token). T.begin_array ∷ ts) (items_end js)) f g h
 
 -- a member with a list that isn't empty
 pub some_written : (a b c : Written) (name : List ℕ) (js : Items) → is_no_item js ≡ false → Gains a b (T.key name ∷ []) → Gains b c (json_tokens (array js)) → Gains a c (labelled_tokens (some_items name js))
@@ -75,7 +75,7 @@ no_tags a k t m l r = subst (λ tags. Gains a a (labelled_tokens (some_tags tags
 word : List ℕ → Bool → List Token
 word s b = cond b (T.string s ∷ []) []
 
-tags_front : (k : Key) (m l r : Bool) → items_front (as_items (map tag_word (cond m (MapT k ∷ []) [] ++ cond l (ListT k ∷ []) [] ++ cond r (RegT k ∷ []) []))) ≡ (cond m (T.string (codes "map") ∷ []) [] ++ cond l (T.string (codes "list") ∷ []) []) ++ cond r (T.string (codes "register") ∷ []) []
+tags_front : (k : Key) (m l r : Bool) → item_tokens (as_items (map tag_word (cond m (MapT k ∷ []) [] ++ cond l (ListT k ∷ []) [] ++ cond r (RegT k ∷ []) []))) ≡ (cond m (T.string (codes "map") ∷ []) [] ++ cond l (T.string (codes "list") ∷ []) []) ++ cond r (T.string (codes "register") ∷ []) []
 tags_front k true true true = refl
 tags_front k true true false = refl
 tags_front k true false true = refl
@@ -107,12 +107,12 @@ tags_written a b c d e f g k t some key begins m l r ends =
 -- ---- places
 
 -- the first place and the others
-pub place_then : (names : List (List ℕ)) (k : Key) (o : OwnDifference) (m l rest : Differences) → items_front (place_items names (difference k o m l rest)) ≡ first_tokens names (difference k o m l rest) ++ items_front (place_items names rest)
+pub place_then : (names : List (List ℕ)) (k : Key) (o : OwnDifference) (m l rest : Differences) → item_tokens (place_items names (difference k o m l rest)) ≡ first_place_tokens names (difference k o m l rest) ++ item_tokens (place_items names rest)
 place_then names k o m l rest = refl
 
 pub place_written : (a b c d e f g h : Written) (names : List (List ℕ)) (k : Key) (o : OwnDifference) (m l rest : Differences) → Gains a b (T.begin_object ∷ []) → Gains b c (labelled_tokens (front_members names k o))
     → Gains c d (labelled_tokens (some_items (codes "list") (place_items names l))) → Gains d e (labelled_tokens (middle_members names o)) → Gains e f (labelled_tokens (some_items (codes "map") (place_items names m)))
-    → Gains f g (labelled_tokens (back_members names o)) → Gains g h (T.end_object ∷ []) → Gains a h (first_tokens names (difference k o m l rest))
+    → Gains f g (labelled_tokens (back_members names o)) → Gains g h (T.end_object ∷ []) → Gains a h (first_place_tokens names (difference k o m l rest))
 place_written a b c d e f g h names k o m l rest begins front list middle maps back ends =
     object_written a b g h (place_members names k o (place_items names m) (place_items names l)) begins
     (labelled_then b f g (((front_members names k o ++ some_items (codes "list") (place_items names l)) ++ middle_members names o) ++ some_items (codes "map") (place_items names m)) (back_members names o)

@@ -1,16 +1,24 @@
 -- That a tree is the next one after another by an operation, and the statements of the crate's laws (`laws`).
-use Rattle.std.specs.Prelude.{◌≡◌, List, ◌++◌, true, false, not, ◌&&◌, ◌||◌, is_some}
+use Rattle.std.specs.Prelude.{◌≡◌, ℕ, List, ◌++◌, true, false, not, ◌&&◌, ◌||◌, is_some, Contains}
 use Rattle.jc_rules.specs.declared.id.Id.{Id}
 use Rattle.jc_rules.specs.declared.key.Key.{Key}
 use Rattle.jc_rules.specs.declared.key.Tagged.{Tagged}
 use Rattle.jc_rules.specs.declared.key.Tagged.TheVariants.{MapT, ListT, RegT}
+use Rattle.jc_rules.specs.declared.operation.Event.{Event}
 use Rattle.jc_rules.specs.declared.operation.Op.{Op}
+use Rattle.jc_rules.specs.declared.rule.Rule.{Rule}
 use Rattle.jc_rules.specs.Order.{same_id}
 use Rattle.jc_rules.specs.Ids.{has_id}
 use Rattle.jc_rules.specs.Context.{Context}
 use Rattle.jc_rules.specs.Derivation.{Operate, ToContext}
 use Rattle.jc_rules.specs.Refused.{IsAnswered}
+use Rattle.jc_rules.specs.State.{State}
+use Rattle.jc_rules.specs.Step.{Step}
+use Rattle.jc_rules.specs.Syntax.{Cmd}
 use Rattle.jc_vectors.specs.OperationIds.{with_deps}
+use Rattle.jc_vectors.specs.StoredStates.{stored_op}
+use Rattle.jc_network.specs.Applied.{applied_ops}
+use Rattle.jc_network.specs.Laws.{IsReached}
 use Rattle.jc_meaning.specs.Effects.{same_path, is_insert, touches, clears, written_by, overwrites, goes_through}
 use Rattle.jc_meaning.specs.Seen.{seen, ids_at, value_seen_at}
 use Rattle.jc_meaning.specs.Meaning.{Means}
@@ -94,3 +102,49 @@ EffectsOfOne =
 -- Two trees have one difference.
 abbrev pub OneDifference : Type 0
 OneDifference = (c d : Context) (x y : Differences) → IsDifference c d x → IsDifference c d y → x ≡ y
+
+-- They do have one where an operation leads from the one tree to the other. Not any two trees have one: no word of a
+-- difference says that a tag is gone, or that a value is another one under its identifier.
+abbrev pub SomeDifference : Type 0
+SomeDifference = (o : Op) (c d : Context) → IsNextTree o c d → (x : Differences) × IsDifference c d x
+
+-- ---- events
+
+-- The operation is applied in the second state, and isn't in the first.
+pub record AppliesOp (A B : State) (o : Op) : Type 0 where
+  pub now : Contains (applied_ops B) o
+  pub before : has_id o.id A.ops ≡ false
+
+-- In each network that is reached from a start, an event that applies an operation leads to the next tree by it.
+abbrev pub EventsChange : Type 0
+EventsChange =
+    (scripts : List (List Cmd)) (network new : List State) (event : Event) (rows : List (Rule × ℕ))
+    → IsReached scripts network
+    → (made : Step network event new rows)
+    → (o : Op)
+    → AppliesOp made.before made.after o
+    → IsNextTree o made.before.tree made.after.tree
+
+-- There an event applies one operation at most.
+abbrev pub EventsApplyOne : Type 0
+EventsApplyOne =
+    (scripts : List (List Cmd)) (network new : List State) (event : Event) (rows : List (Rule × ℕ))
+    → IsReached scripts network
+    → (made : Step network event new rows)
+    → (o p : Op)
+    → AppliesOp made.before made.after o
+    → AppliesOp made.before made.after p
+    → o ≡ p
+
+-- There an event that applies none leaves the tree as it was.
+abbrev pub OthersChangeNothing : Type 0
+OthersChangeNothing =
+    (scripts : List (List Cmd)) (network new : List State) (event : Event) (rows : List (Rule × ℕ))
+    → IsReached scripts network
+    → (made : Step network event new rows)
+    → ((o : Op) → AppliesOp made.before made.after o → ⊥)
+    → made.after.tree ≡ made.before.tree
+
+-- The next tree by an operation is one by the operation as it is kept.
+abbrev pub StoredOpsChange : Type 0
+StoredOpsChange = (o : Op) (c d : Context) → IsNextTree o c d → IsChangedBy (stored_op o) c d

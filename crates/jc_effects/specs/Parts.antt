@@ -61,9 +61,9 @@ differences_of (Place' k o p m q l s r) = difference k (own_seen k o) (differenc
 -- ---- reading
 
 -- The path leads to the context that the store names so; or it leads to no context.
-abbrev pub IsNamed : (Place → List Tagged → Type 0) → Tree → List Tagged → Option Place → Type 0
-IsNamed names t at (Some p) = HasPlace at t × names p at
-IsNamed names t at None = node_at at t.now ≡ None
+abbrev pub IsNameOf : (Place → List Tagged → Type 0) → Tree → List Tagged → Option Place → Type 0
+IsNameOf names t at (Some p) = HasPlace at t × names p at
+IsNameOf names t at None = node_at at t.now ≡ None
 
 -- These are the entries at the key of what is seen.
 pub record AreEntries (k : Key) (c : Context) (e : Entries) : Type 0 where
@@ -101,8 +101,8 @@ pub record AreFound (was now : Entries) (among : Candidates) (own : OwnEffects) 
 
 -- The stores' names for the context at a path, in the one tree and in the other.
 pub record AreContexts (names others : Place → List Tagged → Type 0) (before after : Tree) (at : List Tagged) (x : Contexts) : Type 0 where
-  pub old : IsNamed names before at x.old
-  pub new : IsNamed others after at x.new
+  pub old : IsNameOf names before at x.old
+  pub new : IsNameOf others after at x.new
 
 -- At the key, identifiers and values may have gone, and all else is the same.
 pub record OnlyLosesAt (k : Key) (c d : Context) : Type 0 where
@@ -158,14 +158,14 @@ labelled_tokens [] = []
 labelled_tokens (e ∷ es) = T.key e.0 ∷ (json_tokens e.1 ++ labelled_tokens es)
 
 -- the tokens of items, without the end of their list
-abbrev pub items_front : Items → List Token
-items_front no_items = []
-items_front (item j js) = json_tokens j ++ items_front js
+abbrev pub item_tokens : Items → List Token
+item_tokens no_items = []
+item_tokens (item j js) = json_tokens j ++ item_tokens js
 
 -- the tokens of the first place
-abbrev pub first_tokens : List (List ℕ) → Differences → List Token
-first_tokens names no_difference = []
-first_tokens names (difference k o m l rest) =
+abbrev pub first_place_tokens : List (List ℕ) → Differences → List Token
+first_place_tokens names no_difference = []
+first_place_tokens names (difference k o m l rest) =
     json_tokens (object (as_members (place_members names k o (place_items names m) (place_items names l))))
 
 -- the members of a place before `list`, between `list` and `map`, and behind `map`

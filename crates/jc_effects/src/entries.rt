@@ -8,7 +8,7 @@ ghost use Rattle.jc_rules.specs.WellFormed.{IsWellFormedRegister};
 ghost use Rattle.jc_apply.specs.Fits.{made_under};
 ghost use Rattle.jc_tree.specs.Tree.{or_no_entries};
 ghost use Rattle.jc_meaning.specs.Seen.{seen, ids_at, reg_at, has_tag};
-ghost use Rattle.jc_effects.specs.Parts.{IsNamed, AreEntries};
+ghost use Rattle.jc_effects.specs.Parts.{IsNameOf, AreEntries};
 
 use crate::own::Tags;
 use jc_rules::{Id, Key, Next, Tagged, Value};
@@ -33,7 +33,7 @@ fn ids_in<'a, S: TreeStore>(
     at: &[Tagged],
     key: &Key,
 ) -> &'a [Id]
-    requires { IsNamed (S.names store.now) (S.tree store.now) at.now place }
+    requires { IsNameOf (S.names store.now) (S.tree store.now) at.now place }
     ensures ids { result.now ≡ ids_at key.now (seen at.now (S.tree store.now).now) }
     ensures rising { AreRising result.now }
 {
@@ -53,7 +53,7 @@ fn pairs_in<'a, S: TreeStore>(
     at: &[Tagged],
     key: &Key,
 ) -> &'a [(Id, Value)]
-    requires { IsNamed (S.names store.now) (S.tree store.now) at.now place }
+    requires { IsNameOf (S.names store.now) (S.tree store.now) at.now place }
     ensures pairs { result.now ≡ or_no_entries (reg_at key.now (seen at.now (S.tree store.now).now)) }
     ensures formed { IsWellFormedRegister result.now }
 {
@@ -68,7 +68,7 @@ fn pairs_in<'a, S: TreeStore>(
 
 /// Which tags the key has.
 fn tags_in<S: TreeStore>(store: &S, place: Option<Place>, at: &[Tagged], key: &Key) -> Tags
-    requires { IsNamed (S.names store.now) (S.tree store.now) at.now place }
+    requires { IsNameOf (S.names store.now) (S.tree store.now) at.now place }
     ensures map { result.map ≡ has_tag (MapT key.now) (seen at.now (S.tree store.now).now) }
     ensures list { result.list ≡ has_tag (ListT key.now) (seen at.now (S.tree store.now).now) }
     ensures register { result.register ≡ has_tag (RegT key.now) (seen at.now (S.tree store.now).now) }
@@ -104,7 +104,7 @@ pub(crate) fn link_in<S: TreeStore>(
     at: &[Tagged],
     key: &Key,
 ) -> Option<Next>
-    requires { IsNamed (S.names store.now) (S.tree store.now) at.now place }
+    requires { IsNameOf (S.names store.now) (S.tree store.now) at.now place }
     ensures { result ≡ next_of key.now (seen at.now (S.tree store.now).now) }
 {
     match place {
@@ -120,7 +120,7 @@ pub(crate) fn entries_at<'a, S: TreeStore>(
     at: &[Tagged],
     key: &Key,
 ) -> Entries<'a>
-    requires { IsNamed (S.names store.now) (S.tree store.now) at.now place }
+    requires { IsNameOf (S.names store.now) (S.tree store.now) at.now place }
     ensures { AreEntries key.now (seen at.now (S.tree store.now).now) result }
 {
     Entries {
@@ -138,8 +138,8 @@ pub(crate) fn name_below<S: TreeStore>(
     at: &[Tagged],
     tagged: &Tagged,
 ) -> Option<Place>
-    requires { IsNamed (S.names store.now) (S.tree store.now) at.now place }
-    ensures { IsNamed (S.names store.now) (S.tree store.now) (at.now ++ tagged.now ∷ []) result }
+    requires { IsNameOf (S.names store.now) (S.tree store.now) at.now place }
+    ensures { IsNameOf (S.names store.now) (S.tree store.now) (at.now ++ tagged.now ∷ []) result }
 {
     match place {
         Some(place) => store.below(place, at, tagged),

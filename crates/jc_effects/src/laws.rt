@@ -1,6 +1,6 @@
-//! What the difference is for one operation.
+//! Laws of differences, of one operation and of the events of a run. Each function does nothing: its contract is the law.
 
-ghost use Rattle.jc_effects.specs.Laws.{NothingElsewhere, LossesGoDown, EffectsOfOne, OneDifference};
+ghost use Rattle.jc_effects.specs.Laws.{NothingElsewhere, LossesGoDown, EffectsOfOne, OneDifference, SomeDifference, EventsChange, EventsApplyOne, OthersChangeNothing, StoredOpsChange};
 
 /// Away from an operation, and in another list than that into which it inserts, nothing differs.
 pub fn nothing_elsewhere()
@@ -20,4 +20,29 @@ pub fn effects_of_one()
 /// Two trees have one difference.
 pub fn one_difference()
     ensures { OneDifference }
+{}
+
+/// Where an operation leads from the one tree to the other, they have a difference.
+pub fn some_difference()
+    ensures { SomeDifference }
+{}
+
+/// In each network that is reached from a start, an event that applies an operation leads to the next tree by it.
+pub fn events_change()
+    ensures { EventsChange }
+{}
+
+/// There an event applies one operation at most.
+pub fn events_apply_one()
+    ensures { EventsApplyOne }
+{}
+
+/// There an event that applies none leaves the tree as it was.
+pub fn others_change_nothing()
+    ensures { OthersChangeNothing }
+{}
+
+/// The next tree by an operation is one by the operation as it is kept.
+pub fn stored_ops_change()
+    ensures { StoredOpsChange }
 {}

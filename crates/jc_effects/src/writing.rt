@@ -6,7 +6,7 @@ ghost use Rattle.json.specs.Token as T;
 ghost use Rattle.json.specs.Tree.{json_tokens};
 ghost use Rattle.jc_rules.specs.declared.key.Key.{Key as AnyKey};
 ghost use Rattle.jc_view.specs.Parts.{Gains};
-ghost use Rattle.jc_effects.specs.Parts.{own_seen, differences_of, tags_made, labelled_tokens, items_front, first_tokens, front_members, middle_members, back_members};
+ghost use Rattle.jc_effects.specs.Parts.{own_seen, differences_of, tags_made, labelled_tokens, item_tokens, first_place_tokens, front_members, middle_members, back_members};
 ghost use Rattle.jc_effects.specs.EffectsJson.{as_items, plain_value, id_json, some_ids, some_pairs, some_items, some_tags, link_json, some_links, if_shown, id_and_value, place_items, effects_json};
 
 use crate::effects::Effects;
@@ -290,7 +290,7 @@ fn write_first(
     effects: &Effects,
     out: &mut Writer,
 ) -> Result<(), AllocError>
-    ensures { OnOk result (Gains out.old out.new (first_tokens names.now (differences_of effects.now))) }
+    ensures { OnOk result (Gains out.old out.new (first_place_tokens names.now (differences_of effects.now))) }
 {
     let Effects::Place(key, own, map, list, _) = effects else {
         return Ok(());
@@ -312,7 +312,7 @@ fn write_places(
     effects: &Effects,
     out: &mut Writer,
 ) -> Result<(), AllocError>
-    ensures { OnOk result (Gains out.old out.new (items_front (place_items names.now (differences_of effects.now)))) }
+    ensures { OnOk result (Gains out.old out.new (item_tokens (place_items names.now (differences_of effects.now)))) }
 {
     let mut effects = effects;
     while let Effects::Place(_, _, _, _, rest) = effects {

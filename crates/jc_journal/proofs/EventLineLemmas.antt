@@ -24,6 +24,7 @@ use Rattle.jc_network.proofs.EnabledOrderLemmas.{IsOrdered, ordered}
 use Rattle.jc_network.proofs.EventDidLemmas.{new_op, Did, bound, made, sent, received, took, applied, done}
 use Rattle.jc_network.proofs.MembersLemmas.{op_in, set_there}
 use Rattle.jc_network.proofs.StepsLemmas.{well}
+use Rattle.jc_effects.specs.Difference.{Differences}
 use Rattle.jc_journal.specs.declared.before.Before.{Before}
 use Rattle.jc_journal.specs.declared.before.Before.TheVariants as V
 use Rattle.jc_journal.specs.Operation.{NamedJson}
@@ -35,14 +36,14 @@ use Rattle.jc_journal.proofs.BeforeLemmas.{none_new, above_absent, one_new, at_e
 use Rattle.jc_journal.proofs.PrefixLemmas.{queue_low, made_last, OffersPrefix, all_sent, offers_prefix, step_did, read_in_order}
 
 -- what was noted gives the parts of the line
-record IsLineOf (names : List (List ℕ)) (event : Event) (A B : State) (before : Before) : Type 0 where
-  command : noted_command before ≡ command_member event A
-  new : noted_new before (stored_state B) ≡ new_ids event A B
-  op : op_member names (noted_op event before (stored_state B)) ≡ op_member names (event_op event A B)
+pub record HasParts (event : Event) (A B : State) (before : Before) : Type 0 where
+  pub command : noted_command before ≡ command_member event A
+  pub new : noted_new before (stored_state B) ≡ new_ids event A B
+  pub op : noted_op event before (stored_state B) ≡ option_map stored_op (event_op event A B)
 
-module _ (names : List (List ℕ)) (A : State) (read : List Op) where
+module _ (A : State) (read : List Op) where
   -- a command that makes no operation
-  bound_line : (p : ℕ) (B : State) (before : Before) → B.queue ≡ A.queue → IsNotedOf (E.Exec p) A read before → IsLineOf names (E.Exec p) A B before
+  bound_line : (p : ℕ) (B : State) (before : Before) → B.queue ≡ A.queue → IsNotedOf (E.Exec p) A read before → HasParts (E.Exec p) A B before
   bound_line p B (V.Exec command count) q n =
       let replica : slice_get (map stored_op B.queue) count ≡ None =
       slice_get_past (map stored_op B.queue) count (let l = length-map B.queue stored_op in let m = ap length q in let k = n.1 in omega (arith, l, m, k)) in
@@ -50,14 +51,14 @@ module _ (names : List (List ℕ)) (A : State) (read : List Op) where
       record {
         command = ap (λ (c : List ℕ). (codes "command", string c) ∷ []) n.0;
         new = refl;
-        op = ap (op_member names) (replica ∙ sym none);
+        op = replica ∙ sym (ap (option_map stored_op) none);
       }
   bound_line p B (V.Send count) q n = absurd n
   bound_line p B (V.Recv came) q n = absurd n
   bound_line p B V.Nothing q n = absurd n
 
   -- a command that makes the operation o
-  made_line : (p : ℕ) (B : State) (o : Op) (before : Before) → AreUpTo (greatest A.ops) A.queue → o.id.counter ≡ greatest A.ops + 1 → B.queue ≡ A.queue ++ o ∷ [] → IsNotedOf (E.Exec p) A read before → IsLineOf names (E.Exec p) A B before
+  made_line : (p : ℕ) (B : State) (o : Op) (before : Before) → AreUpTo (greatest A.ops) A.queue → o.id.counter ≡ greatest A.ops + 1 → B.queue ≡ A.queue ++ o ∷ [] → IsNotedOf (E.Exec p) A read before → HasParts (E.Exec p) A B before
   made_line p B o (V.Exec command count) low c q n =
       let kept : slice_get (map stored_op B.queue) count ≡ Some (stored_op o) =
       slice_get-map stored_op B.queue count
@@ -67,13 +68,13 @@ module _ (names : List (List ℕ)) (A : State) (read : List Op) where
       record {
         command = ap (λ (c : List ℕ). (codes "command", string c) ∷ []) n.0;
         new = refl;
-        op = ap (op_member names) kept ∙ ap (λ j. (codes "op", j) ∷ []) (op_kept names o) ∙ sym (ap (op_member names) is);
+        op = kept ∙ sym (ap (option_map stored_op) is);
       }
   made_line p B o (V.Send count) low c q n = absurd n
   made_line p B o (V.Recv came) low c q n = absurd n
   made_line p B o V.Nothing low c q n = absurd n
 
-  sent_line : (p : ℕ) (B : State) (before : Before) → OffersPrefix A → AreInOrder A.queue → B.send ≡ both A.send A.queue → IsNotedOf (E.Send p) A read before → IsLineOf names (E.Send p) A B before
+  sent_line : (p : ℕ) (B : State) (before : Before) → OffersPrefix A → AreInOrder A.queue → B.send ≡ both A.send A.queue → IsNotedOf (E.Send p) A read before → HasParts (E.Send p) A B before
   sent_line p B (V.Exec command count) h o e n = absurd n
   sent_line p B (V.Send count) h o e n =
       let all : B.send ≡ A.send ++ h.rest = e ∙ all_sent A h o ∙ h.is in
@@ -88,7 +89,7 @@ module _ (names : List (List ℕ)) (A : State) (read : List Op) where
   sent_line p B (V.Recv came) h o e n = absurd n
   sent_line p B V.Nothing h o e n = absurd n
 
-  received_line : (p q : ℕ) (B : State) (before : Before) → AreInOrder A.recv → AreInOrder read → B.recv ≡ both A.recv read → IsNotedOf (E.Recv p q) A read before → IsLineOf names (E.Recv p q) A B before
+  received_line : (p q : ℕ) (B : State) (before : Before) → AreInOrder A.recv → AreInOrder read → B.recv ≡ both A.recv read → IsNotedOf (E.Recv p q) A read before → HasParts (E.Recv p q) A B before
   received_line p q B (V.Exec command count) h o e n = absurd n
   received_line p q B (V.Send count) h o e n = absurd n
   received_line p q B (V.Recv came) h o e n =
@@ -97,7 +98,7 @@ module _ (names : List (List ℕ)) (A : State) (read : List Op) where
       record { command = refl; new = ap (λ (is : List Id). Some is) (n ∙ sym new); op = refl }
   received_line p q B V.Nothing h o e n = absurd n
 
-  took_line : (p q : ℕ) (i : Id) (B : State) (o : Op) (before : Before) → AreInOrder A.recv → o.id ≡ i → B.recv ≡ both A.recv (o ∷ []) → IsNotedOf (E.Take p q i) A read before → IsLineOf names (E.Take p q i) A B before
+  took_line : (p q : ℕ) (i : Id) (B : State) (o : Op) (before : Before) → AreInOrder A.recv → o.id ≡ i → B.recv ≡ both A.recv (o ∷ []) → IsNotedOf (E.Take p q i) A read before → HasParts (E.Take p q i) A B before
   took_line p q i B o (V.Exec command count) h s e n = absurd n
   took_line p q i B o (V.Send count) h s e n = absurd n
   took_line p q i B o (V.Recv came) h s e n =
@@ -108,7 +109,7 @@ module _ (names : List (List ℕ)) (A : State) (read : List Op) where
       record { command = refl; new = ap (λ (is : List Id). Some is) (n ∙ sym new); op = refl }
   took_line p q i B o V.Nothing h s e n = absurd n
 
-  applied_line : (p : ℕ) (i : Id) (B : State) (o : Op) (before : Before) → op_of i A.recv ≡ Some o → B.recv ≡ A.recv → IsNotedOf (E.Apply p i) A read before → IsLineOf names (E.Apply p i) A B before
+  applied_line : (p : ℕ) (i : Id) (B : State) (o : Op) (before : Before) → op_of i A.recv ≡ Some o → B.recv ≡ A.recv → IsNotedOf (E.Apply p i) A read before → HasParts (E.Apply p i) A B before
   applied_line p i B o (V.Exec command count) f e n = absurd n
   applied_line p i B o (V.Send count) f e n = absurd n
   applied_line p i B o (V.Recv came) f e n = absurd n
@@ -117,20 +118,20 @@ module _ (names : List (List ℕ)) (A : State) (read : List Op) where
       record {
         command = refl;
         new = refl;
-        op = ap (op_member names) kept ∙ ap (λ j. (codes "op", j) ∷ []) (op_kept names o) ∙ sym (ap (op_member names) f);
+        op = kept ∙ sym (ap (option_map stored_op) f);
       }
 
-  done_line : (p : ℕ) (B : State) (before : Before) → IsNotedOf (E.Done p) A read before → IsLineOf names (E.Done p) A B before
+  done_line : (p : ℕ) (B : State) (before : Before) → IsNotedOf (E.Done p) A read before → HasParts (E.Done p) A B before
   done_line p B (V.Exec command count) n = absurd n
   done_line p B (V.Send count) n = absurd n
   done_line p B (V.Recv came) n = absurd n
   done_line p B V.Nothing n = record { command = refl; new = refl; op = refl }
 
   -- an event that is this one
-  as_event : (event other : Event) (B : State) (before : Before) → event ≡ other → (IsNotedOf other A read before → IsLineOf names other A B before) → IsNotedOf event A read before → IsLineOf names event A B before
-  as_event event other B before e f = subst (λ (x : Event). IsNotedOf x A read before → IsLineOf names x A B before) (sym e) f
+  as_event : (event other : Event) (B : State) (before : Before) → event ≡ other → (IsNotedOf other A read before → HasParts other A B before) → IsNotedOf event A read before → HasParts event A B before
+  as_event event other B before e f = subst (λ (x : Event). IsNotedOf x A read before → HasParts x A B before) (sym e) f
 
-  did_line : (event : Event) (B : State) (before : Before) → AreUpTo (greatest A.ops) A.queue → IsOrdered A → OffersPrefix A → AreInOrder read → Did A event read B → IsNotedOf event A read before → IsLineOf names event A B before
+  did_line : (event : Event) (B : State) (before : Before) → AreUpTo (greatest A.ops) A.queue → IsOrdered A → OffersPrefix A → AreInOrder read → Did A event read B → IsNotedOf event A read before → HasParts event A B before
   did_line event B before low o h r (bound p rest x e b is left s new) =
       as_event event (E.Exec p) B before is (bound_line p B before (ap (λ (S : State). S.queue) new))
   did_line event B before low o h r (made p rest c e cur m t is left s op new) =
@@ -154,21 +155,38 @@ named_within (E.Take p q i) n h = h.0
 named_within (E.Apply p i) n h = h.0
 named_within (E.Done p) n h = h
 
--- The line of a step, from what was noted before it and the stored state after it.
-pub line_of_step : (names : List (List ℕ)) (given : Bool) (n : ℕ) (event : Event) (rules : Option (List (Rule × ℕ))) (before : Before) (old new : List State) (rows : List (Rule × ℕ)) (replica : ReplicaHistory)
-    → (s : Step old event new rows) → IsNoted event old before → HasReplica new (replica_of event) replica
-    → members_line (noted_members names given n event rules before replica.history.now) ≡ event_line names given n event rules s.before s.after
-line_of_step names given n event rules before old new rows replica s noted has =
+-- what was noted before a step gives the parts of its line, with the stored state of its replica after it
+pub parts_of_step : (event : Event) (before : Before) (old new : List State) (rows : List (Rule × ℕ)) → (s : Step old event new rows) → IsNoted event old before → HasParts event s.before s.after before
+parts_of_step event before old new rows s noted =
     let scripts = noted.reached.0 in
     let r = noted.reached.1 in
     let p = replica_of event in
+    did_line s.before s.read event s.after before (queue_low old (well scripts old r) p s.before s.is_there) (ordered scripts old r p s.before s.is_there)
+    (offers_prefix scripts old r p s.before s.is_there) (read_in_order scripts old r event s.read s.reads) (step_did old event new rows s) (noted.notes s.before s.read s.is_there s.reads)
+
+-- the replica of a step has the stored state before it
+pub kept_before : (event : Event) (old new : List State) (rows : List (Rule × ℕ)) (replica : ReplicaHistory) → (s : Step old event new rows) → HasReplica old (replica_of event) replica → replica.history.now ≡ stored_state s.before
+kept_before event old new rows replica s has = has.kept ∙ ap stored_state (same_Some has.at s.before (sym has.there ∙ s.is_there))
+
+-- and the one after it
+pub kept_after : (event : Event) (old new : List State) (rows : List (Rule × ℕ)) (replica : ReplicaHistory) → (s : Step old event new rows) → HasReplica new (replica_of event) replica → replica.history.now ≡ stored_state s.after
+kept_after event old new rows replica s has =
+    let p = replica_of event in
     let now : slice_get new p ≡ Some s.after = ap (λ (N : List State). slice_get N p) s.is_new ∙ set_there old p s.before s.after s.is_there in
-    let after : has.at ≡ s.after = same_Some has.at s.after (sym has.there ∙ now) in
-    let kept : replica.history.now ≡ stored_state s.after = has.kept ∙ ap stored_state after in
-    let line : IsLineOf names event s.before s.after before =
-    did_line names s.before s.read event s.after before (queue_low old (well scripts old r) p s.before s.is_there) (ordered scripts old r p s.before s.is_there)
-    (offers_prefix scripts old r p s.before s.is_there) (read_in_order scripts old r event s.read s.reads) (step_did old event new rows s) (noted.notes s.before s.read s.is_there s.reads) in
-    ap (λ (K : State). members_line (noted_members names given n event rules before K)) kept
-    ∙ ap (λ (c : List NamedJson). members_line (line_members names given n event rules c (new_member names (noted_new before (stored_state s.after))) (op_member names (noted_op event before (stored_state s.after))))) line.command
-    ∙ ap (λ (is : Option (List Id)). members_line (line_members names given n event rules (command_member event s.before) (new_member names is) (op_member names (noted_op event before (stored_state s.after))))) line.new
-    ∙ ap (λ (o : List NamedJson). members_line (line_members names given n event rules (command_member event s.before) (new_member names (new_ids event s.before s.after)) o)) line.op
+    has.kept ∙ ap stored_state (same_Some has.at s.after (sym has.there ∙ now))
+
+op_is : (names : List (List ℕ)) (x : Option Op) → op_member names (option_map stored_op x) ≡ op_member names x
+op_is names None = refl
+op_is names (Some o) = ap (λ j. (codes "op", j) ∷ []) (op_kept names o)
+
+-- The line of a step, from what was noted before it and the stored state after it.
+pub line_of_step : (names : List (List ℕ)) (given : Bool) (n : ℕ) (event : Event) (rules : Option (List (Rule × ℕ))) (effects : Option Differences) (before : Before) (old new : List State) (rows : List (Rule × ℕ)) (replica : ReplicaHistory)
+    → (s : Step old event new rows) → IsNoted event old before → HasReplica new (replica_of event) replica
+    → members_line (noted_members names given n event rules effects before replica.history.now) ≡ event_line names given n event rules effects s.before s.after
+line_of_step names given n event rules effects before old new rows replica s noted has =
+    let line = parts_of_step event before old new rows s noted in
+    ap (λ (K : State). members_line (noted_members names given n event rules effects before K)) (kept_after event old new rows replica s has)
+    ∙ ap (λ (c : List NamedJson). members_line (line_members names given n event rules effects c (new_member names (noted_new before (stored_state s.after))) (op_member names (noted_op event before (stored_state s.after))))) line.command
+    ∙ ap (λ (is : Option (List Id)). members_line (line_members names given n event rules effects (command_member event s.before) (new_member names is) (op_member names (noted_op event before (stored_state s.after))))) line.new
+    ∙ ap (λ (o : List NamedJson). members_line (line_members names given n event rules effects (command_member event s.before) (new_member names (new_ids event s.before s.after)) o))
+    (ap (op_member names) line.op ∙ op_is names (event_op event s.before s.after))

@@ -5,3 +5,4 @@ pub mod PrefixLemmas
 pub mod EventLineLemmas
 pub mod StuckLineLemmas
 pub mod KnownLemmas
+pub mod EventEffectsLemmas

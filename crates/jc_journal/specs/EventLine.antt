@@ -1,6 +1,7 @@
--- The line of an event that was made, by the states of its replica before and after it. The contract of `event_line`
--- cites it. The list of names has the name of each replica at its number.
-use Rattle.std.specs.Prelude.{ℕ, List, [], ◌∷◌, ◌++◌, codes, decimal, filter, Bool, true, false, Option, Some, None, slice_get}
+-- The line of an event that was made, by the states of its replica before and after it, and what it tells of the event's
+-- effects. The contracts of `event_line` and `event_effects` cite it. The list of names has the name of each replica at
+-- its number.
+use Rattle.std.specs.Prelude.{◌≡◌, ℕ, List, [], ◌∷◌, ◌++◌, codes, decimal, filter, Bool, true, false, Option, Some, None, slice_get}
 use Rattle.json.specs.Json.{boolean, number, string, array, Items, no_items, item}
 use Rattle.json.specs.Print.{print}
 use Rattle.json.specs.Tree.{json_tokens}
@@ -9,6 +10,7 @@ use Rattle.jc_rules.specs.declared.operation.Event.{Event}
 use Rattle.jc_rules.specs.declared.operation.Event.TheVariants as E
 use Rattle.jc_rules.specs.declared.operation.Op.{Op}
 use Rattle.jc_rules.specs.declared.rule.Rule.{Rule}
+use Rattle.jc_rules.specs.Context.{Context}
 use Rattle.jc_rules.specs.Ids.{without}
 use Rattle.jc_rules.specs.ReplicaNames.{name_at}
 use Rattle.jc_rules.specs.RuleNames.{rule_name}
@@ -19,6 +21,8 @@ use Rattle.jc_rules.specs.Table.{op_of}
 use Rattle.jc_printer.specs.Canon.{canon_cmd, canon_event}
 use Rattle.jc_replica.specs.Operations.{identifiers}
 use Rattle.jc_replica.specs.Received.{is_new}
+use Rattle.jc_effects.specs.Difference.{Differences, IsDifference}
+use Rattle.jc_effects.specs.EffectsJson.{effects_json}
 use Rattle.jc_journal.specs.Operation.{NamedJson, json_object, ids_json, op_json}
 
 -- ---- what every event has
@@ -89,6 +93,20 @@ abbrev pub op_member : List (List ℕ) → Option Op → List NamedJson
 op_member names None = []
 op_member names (Some o) = (codes "op", op_json names o) ∷ []
 
+-- What is told of the effects of an event, where they are asked for: where it has an operation, the difference of its
+-- replica's trees before and after it. Where it has none, nothing is told, and the tree stayed as it was.
+abbrev pub AreEffectsOf : Option Op → Context → Context → Option Differences → Type 0
+AreEffectsOf None c d told = (told ≡ None) × (d ≡ c)
+AreEffectsOf (Some o) c d told = (x : Differences) × (told ≡ Some x) × IsDifference c d x
+
+abbrev pub AreEffects : Bool → Event → State → State → Option Differences → Type 0
+AreEffects false event A B told = told ≡ None
+AreEffects true event A B told = AreEffectsOf (event_op event A B) A.tree B.tree told
+
+abbrev pub effects_member : List (List ℕ) → Option Differences → List NamedJson
+effects_member names None = []
+effects_member names (Some x) = (codes "effects", effects_json names x) ∷ []
+
 -- the rules of the event, each with its depth before it, where they are asked for
 abbrev pub rule_items : List (Rule × ℕ) → Items
 rule_items [] = no_items
@@ -102,22 +120,24 @@ rules_member (Some rows) = (codes "rules", array (rule_items rows)) ∷ []
 -- ---- the line
 
 -- the members of a line, with those of the command, of the identifiers and of the operation
-abbrev pub line_members : List (List ℕ) → Bool → ℕ → Event → Option (List (Rule × ℕ)) → List NamedJson → List NamedJson
-    → List NamedJson → List NamedJson
-line_members names given n event rules command new made =
-    command ++ (event_member names event ∷ []) ++ sender_member names event ++ given_member given
-    ++ (kind_member event ∷ []) ++ new ++ (number_member n ∷ []) ++ made
+abbrev pub line_members : List (List ℕ) → Bool → ℕ → Event → Option (List (Rule × ℕ)) → Option Differences
+    → List NamedJson → List NamedJson → List NamedJson → List NamedJson
+line_members names given n event rules effects command new made =
+    command ++ effects_member names effects ++ (event_member names event ∷ []) ++ sender_member names event
+    ++ given_member given ++ (kind_member event ∷ []) ++ new ++ (number_member n ∷ []) ++ made
     ++ (replica_member names event ∷ []) ++ rules_member rules
 
-abbrev pub event_members : List (List ℕ) → Bool → ℕ → Event → Option (List (Rule × ℕ)) → State → State → List NamedJson
-event_members names given n event rules A B =
-    line_members names given n event rules
+abbrev pub event_members : List (List ℕ) → Bool → ℕ → Event → Option (List (Rule × ℕ)) → Option Differences → State → State
+    → List NamedJson
+event_members names given n event rules effects A B =
+    line_members names given n event rules effects
     (command_member event A) (new_member names (new_ids event A B)) (op_member names (event_op event A B))
 
 -- the line of an object with these members
 abbrev pub members_line : List NamedJson → List ℕ
 members_line es = print (json_tokens (json_object es)) ++ 10 ∷ []
 
--- The line of the event with this number, which led its replica from state A to state B.
-abbrev pub event_line : List (List ℕ) → Bool → ℕ → Event → Option (List (Rule × ℕ)) → State → State → List ℕ
-event_line names given n event rules A B = members_line (event_members names given n event rules A B)
+-- The line of the event with this number, which led its replica from state A to state B, with these rules and effects.
+abbrev pub event_line : List (List ℕ) → Bool → ℕ → Event → Option (List (Rule × ℕ)) → Option Differences → State → State
+    → List ℕ
+event_line names given n event rules effects A B = members_line (event_members names given n event rules effects A B)

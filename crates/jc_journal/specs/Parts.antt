@@ -21,6 +21,9 @@ use Rattle.jc_rules.specs.Trace.{Rows}
 use Rattle.jc_rules.specs.VersionVectors.{greatest_of}
 use Rattle.jc_replica.specs.Operations.{identifiers}
 use Rattle.jc_network.specs.declared.fault.Stuck.{Stuck}
+use Rattle.jc_effects.specs.declared.effects.Effects.{Effects}
+use Rattle.jc_effects.specs.Difference.{Differences}
+use Rattle.jc_effects.specs.Parts.{differences_of}
 use Rattle.jc_journal.specs.declared.before.Before.{Before}
 use Rattle.jc_journal.specs.declared.before.Before.TheVariants as V
 use Rattle.jc_journal.specs.Operation.{NamedJson}
@@ -49,6 +52,13 @@ member_tokens (e ∷ es) = T.key e.0 ∷ (json_tokens e.1 ++ member_tokens es)
 abbrev pub rows_of : Option (Bor Rows) → Option (List (Rule × ℕ))
 rows_of rules = option_map (λ t. t.now.rows) rules
 
+-- what differs, where it is known
+abbrev pub differences_in : Option Effects → Option Differences
+differences_in effects = option_map differences_of effects
+
+abbrev pub differences_at : Option (Bor Effects) → Option Differences
+differences_at effects = option_map (λ e. differences_of e.now) effects
+
 -- the command that was noted
 abbrev pub noted_command : Before → List NamedJson
 noted_command (V.Exec command made) = (codes "command", string command) ∷ []
@@ -66,10 +76,10 @@ noted_op (E.Exec p) (V.Exec command made) K = slice_get K.queue made
 noted_op (E.Apply p i) before K = op_of i K.recv
 noted_op event before K = None
 
-abbrev pub noted_members : List (List ℕ) → Bool → ℕ → Event → Option (List (Rule × ℕ)) → Before → State
-    → List NamedJson
-noted_members names given n event rules before K =
-    line_members names given n event rules
+abbrev pub noted_members : List (List ℕ) → Bool → ℕ → Event → Option (List (Rule × ℕ)) → Option Differences → Before
+    → State → List NamedJson
+noted_members names given n event rules effects before K =
+    line_members names given n event rules effects
     (noted_command before) (new_member names (noted_new before K)) (op_member names (noted_op event before K))
 
 -- ---- stuck events

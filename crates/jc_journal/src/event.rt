@@ -10,8 +10,8 @@ ghost use Rattle.jc_rules.specs.Step.{Network as AnyNetwork, StepIn};
 ghost use Rattle.jc_printer.specs.Canon.{AreNamed};
 ghost use Rattle.jc_view.specs.Parts.{Gains};
 ghost use Rattle.jc_journal.specs.Before.{IsNoted};
-ghost use Rattle.jc_journal.specs.EventLine.{sender_member, new_member, op_member, rule_items, rules_member, members_line, event_line};
-ghost use Rattle.jc_journal.specs.Parts.{member_tokens, rows_of, noted_command, noted_new, noted_op, noted_members};
+ghost use Rattle.jc_journal.specs.EventLine.{sender_member, new_member, op_member, effects_member, rule_items, rules_member, members_line, event_line};
+ghost use Rattle.jc_journal.specs.Parts.{member_tokens, rows_of, differences_at, noted_command, noted_new, noted_op, noted_members};
 
 use crate::before::Before;
 use crate::lookup::{find, rest};
@@ -20,6 +20,7 @@ use crate::members::{
     write_text,
 };
 use crate::operation::{write_ids, write_ids_of, write_op};
+use jc_effects::{Effects, write_effects};
 use jc_network::Net;
 use jc_replica::Replica;
 use jc_rules::{Event, Op, Rule, Text, Trace, name_at};
@@ -35,6 +36,15 @@ pub struct NumberedEvent {
     pub number: u64,
     /// Whether it is one of the given events.
     pub given: bool,
+}
+
+/// What an event's line tells, beside what its replica has.
+#[derive(Clone, Copy)]
+struct Told<'a> {
+    numbered: &'a NumberedEvent,
+    before: &'a Before,
+    rules: Option<&'a Trace>,
+    effects: Option<&'a Effects>,
 }
 
 /// Writes the command that ran.
@@ -83,7 +93,11 @@ fn write_new(
 }
 
 /// The operation that the event made or applied.
-fn op_of<'a>(event: &Event, before: &Before, replica: &'a Replica<ArenaTree>) -> Option<&'a Op>
+pub(crate) fn op_of<'a>(
+    event: &Event,
+    before: &Before,
+    replica: &'a Replica<ArenaTree>,
+) -> Option<&'a Op>
     ensures { option_copied result ≡ noted_op event.now before.now replica.now.history.now }
 {
     match (event, before) {
@@ -108,6 +122,25 @@ fn write_op_member(
         Some(op) => {
             out.key("op")?;
             write_op(alloc, names, op, out)
+        }
+        None => Ok(()),
+    }
+}
+
+/// Writes what the event changed in its replica's tree, where it is told.
+fn write_effects_member(
+    alloc: Global,
+    names: &[Text],
+    effects: Option<&Effects>,
+    out: &mut Writer,
+) -> Result<(), AllocError>
+    ensures { OnOk result (Gains out.old out.new
+        (member_tokens (effects_member names.now (differences_at effects.entry)))) }
+{
+    match effects {
+        Some(effects) => {
+            out.key("effects")?;
+            write_effects(alloc, names, effects, out)
         }
         None => Ok(()),
     }
@@ -152,59 +185,58 @@ fn write_rules(rules: Option<&Trace>, out: &mut Writer) -> Result<(), AllocError
 fn write_members(
     alloc: Global,
     names: &[Text],
-    numbered: &NumberedEvent,
-    before: &Before,
+    told: &Told<'_>,
     replica: &Replica<ArenaTree>,
-    rules: Option<&Trace>,
     out: &mut Writer,
 ) -> Result<(), AllocError>
     requires few { length names.now ≤ MAX_REPLICAS }
-    requires named { AreNamed numbered.now.event (length names.now) }
+    requires named { AreNamed told.now.numbered.now.event (length names.now) }
     ensures { OnOk result (Gains out.old out.new (member_tokens
-        (noted_members names.now numbered.now.given numbered.now.number numbered.now.event (rows_of rules.entry)
-        before.now replica.now.history.now))) }
+        (noted_members names.now told.now.numbered.now.given told.now.numbered.now.number told.now.numbered.now.event
+        (rows_of told.now.rules) (differences_at told.now.effects) told.now.before.now replica.now.history.now))) }
 {
-    let event = &numbered.event;
-    write_command(before, out)?;
+    let event = &told.numbered.event;
+    write_command(told.before, out)?;
+    write_effects_member(alloc, names, told.effects, out)?;
     write_event(alloc, names, event, out)?;
     write_sender(names, event, out)?;
-    write_given(numbered.given, out)?;
+    write_given(told.numbered.given, out)?;
     write_kind(event, out)?;
-    write_new(alloc, names, before, replica, out)?;
-    write_number(numbered.number, out)?;
-    write_op_member(alloc, names, op_of(event, before, replica), out)?;
+    write_new(alloc, names, told.before, replica, out)?;
+    write_number(told.numbered.number, out)?;
+    write_op_member(alloc, names, op_of(event, told.before, replica), out)?;
     write_replica(names, event, out)?;
-    write_rules(rules, out)
+    write_rules(told.rules, out)
 }
 
 /// The line of an event, whose replica is as it is after the event.
 fn line_of(
     alloc: Global,
     names: &[Text],
-    numbered: &NumberedEvent,
-    before: &Before,
+    told: &Told<'_>,
     replica: &Replica<ArenaTree>,
-    rules: Option<&Trace>,
 ) -> Result<Vec<u8>, AllocError>
     requires few { length names.now ≤ MAX_REPLICAS }
-    requires named { AreNamed numbered.now.event (length names.now) }
+    requires named { AreNamed told.now.numbered.now.event (length names.now) }
     ensures { IfOk result (λ line. line.items ≡ members_line
-        (noted_members names.now numbered.now.given numbered.now.number numbered.now.event (rows_of rules.entry)
-        before.now replica.now.history.now)) }
+        (noted_members names.now told.now.numbered.now.given told.now.numbered.now.number told.now.numbered.now.event
+        (rows_of told.now.rules) (differences_at told.now.effects) told.now.before.now replica.now.history.now)) }
 {
     let mut out = begin_line(alloc)?;
-    write_members(alloc, names, numbered, before, replica, rules, &mut out)?;
+    write_members(alloc, names, told, replica, &mut out)?;
     end_line(out)
 }
 
 /// The line, with its line feed, of an event that led to the network. `before` is what `Before::of` noted of the
-/// network before it; with `rules` the line has those of its trace. Nothing but memory is refused.
+/// network before it; with `rules` the line has those of its trace, and with `effects` what it changed in its replica's
+/// tree (`event_effects`). Nothing but memory is refused.
 pub fn event_line(
     alloc: Global,
     net: &Net,
     numbered: &NumberedEvent,
     before: &Before,
     rules: Option<&Trace>,
+    effects: Option<&Effects>,
 ) -> Result<Vec<u8>, AllocError>
     requires { AreNamed numbered.now.event (length net.now.names) }
     ensures { IfOk result (λ line.
@@ -212,11 +244,17 @@ pub fn event_line(
         → (made : StepIn old numbered.now.event net.now.history.now rows)
         → IsNoted numbered.now.event old.states before.now
         → line.items ≡ event_line net.now.names numbered.now.given numbered.now.number numbered.now.event
-        (rows_of rules.entry) made.step.before made.step.after) }
+        (rows_of rules.entry) (differences_at effects.entry) made.step.before made.step.after) }
 {
     let names = net.names();
     let Some(replica) = net.replica(numbered.event.replica()) else {
         unreachable!();
     };
-    line_of(alloc, names, numbered, before, replica, rules)
+    let told = Told {
+        numbered,
+        before,
+        rules,
+        effects,
+    };
+    line_of(alloc, names, &told, replica)
 }

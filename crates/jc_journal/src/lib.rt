@@ -3,6 +3,7 @@
 #![tactic(auto)]
 
 mod before;
+mod effects;
 mod event;
 mod lookup;
 mod members;
@@ -10,5 +11,6 @@ mod operation;
 mod stuck;
 
 pub use before::Before;
+pub use effects::event_effects;
 pub use event::{NumberedEvent, event_line};
 pub use stuck::stuck_line;

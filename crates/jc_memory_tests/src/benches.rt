@@ -1,14 +1,14 @@
-//! Tests of a bench: steps with too little memory count nothing, and succeed with enough.
+//! Tests of a bench: steps with too little memory count nothing, and succeed with enough. A step that is refused takes
+//! a take of its pass, so each is tried at a bench of its own.
 
 ghost use Rattle.std.specs.Prelude.{All};
 ghost use Rattle.jc_rules.specs.Step.{replica_of};
 ghost use Rattle.jc_runner.specs.Benches.{IsPassFor, IsNewAt};
 
 use crate::attempts::{MOST, Outcome, done_if, holds};
-use crate::memory::{UNIT, fill, leave};
+use crate::memory::{SPARE, budget, fill, leave};
 use crate::rows::{DELETION, scene};
 use jc_rules::Event;
-use jc_rules::limits::MAX_THREAD_EVENTS;
 use jc_runner::{Bench, Pass, StepAnswer};
 use std::alloc::Global;
 use std::process::Abort;
@@ -16,19 +16,19 @@ use std::sync::Wait;
 
 // Takes the last pass out of the list.
 fn last_pass(rt: &impl Abort, bench: &Bench, passes: &mut Vec<Pass>) -> Pass
-    requires { All (IsNewAt bench.now 100000) passes.old.items }
-    ensures { IsNewAt bench.now 100000 result × All (IsNewAt bench.now 100000) passes.new.items }
+    requires { All (IsNewAt bench.now 10) passes.old.items }
+    ensures { IsNewAt bench.now 10 result × All (IsNewAt bench.now 10) passes.new.items }
 {
     let _ = bench;
     passes.pop().expect(rt, "a pass")
 }
 
-// A bench of two replicas, with the pass of each.
+// A bench of two replicas, with the pass of each, which has ten takes.
 fn opened(rt: &impl Abort, alloc: Global) -> (Bench, Pass, Pass)
     ensures { IsPassFor result.0 0 result.1 × IsPassFor result.0 1 result.2 }
 {
     let scenario = scene(rt, alloc, DELETION);
-    let (bench, mut passes) = match Bench::open(alloc, scenario, MAX_THREAD_EVENTS) {
+    let (bench, mut passes) = match Bench::open(alloc, scenario, 10) {
         Ok(opened) => opened,
         Err(_) => panic!(rt; "no bench"),
     };
@@ -79,72 +79,85 @@ fn stepped_with<R: Wait + Abort>(
     (pass, answer, count)
 }
 
-// Asks for the event until there is enough memory. Returns the number of refusals, after which nothing was counted.
-fn refused_step<R: Wait + Abort>(
-    rt: &R,
-    alloc: Global,
-    bench: &Bench,
-    pass: Pass,
-    event: &Event,
-    want: (u64, Want),
-) -> (Pass, u64)
-    requires { IsPassFor bench.now (replica_of event.now) pass }
-    ensures { IsPassFor bench.now (replica_of event.now) result.0 }
-{
-    let mut pass = pass;
-    for n in 0..MOST {
-        let (back, answer, count) = stepped_with(rt, alloc, bench, pass, event, n * UNIT);
-        pass = back;
-        match outcome(answer, want.1) {
-            Outcome::Done => return (pass, n as u64),
-            Outcome::Refused => holds(rt, count == want.0),
-            Outcome::Wrong => panic!(rt; "another answer"),
-        }
+// The length of the schedule before the event and after it.
+fn lengths(want: Want) -> (u64, u64) {
+    match want {
+        Want::Made(number) => (number.saturating_sub(1), number),
+        Want::Stuck(front, _) => (front, front),
     }
-    panic!(rt; "it is always refused")
 }
 
-// The event is executed after refusals, with this number.
+// Asks for the event with this much memory. Where that is refused nothing is counted, and with ample memory the answer
+// is the event's. Returns whether it was refused.
 fn makes<R: Wait + Abort>(
     rt: &R,
     alloc: Global,
     bench: &Bench,
     pass: Pass,
-    event: Event,
-    number: u64,
-) -> Pass
-    requires { IsPassFor bench.now (replica_of event) pass }
-    ensures { IsPassFor bench.now (replica_of event) result }
+    event: &Event,
+    want: Want,
+    bytes: usize,
+) -> (Pass, bool)
+    requires { IsPassFor bench.now (replica_of event.now) pass }
+    ensures { IsPassFor bench.now (replica_of event.now) result.0 }
 {
-    let want = (number.saturating_sub(1), Want::Made(number));
-    let (mut pass, refused) = refused_step(rt, alloc, bench, pass, &event, want);
-    holds(rt, refused > 0 && bench.count(&mut pass) == number);
-    pass
+    let (before, after) = lengths(want);
+    let (pass, answer, count) = stepped_with(rt, alloc, bench, pass, event, bytes);
+    match outcome(answer, want) {
+        Outcome::Done => {
+            holds(rt, count == after);
+            (pass, false)
+        }
+        Outcome::Refused => {
+            holds(rt, count == before);
+            let (pass, answer, count) = stepped_with(rt, alloc, bench, pass, event, SPARE);
+            holds(rt, outcome(answer, want) == Outcome::Done && count == after);
+            (pass, true)
+        }
+        Outcome::Wrong => panic!(rt; "another answer"),
+    }
 }
 
-// The events of two replicas, each refused until there is enough memory.
-fn step_all<R: Wait + Abort>(rt: &R, alloc: Global, bench: &Bench, a: Pass, b: Pass)
-    requires { IsPassFor bench.now 0 a × IsPassFor bench.now 1 b }
-{
-    let _a = makes(rt, alloc, bench, a, Event::Exec(0), 1);
-    let want = (1, Want::Stuck(1, 31));
-    let (b, _) = refused_step(rt, alloc, bench, b, &Event::Exec(1), want);
-    let b = makes(rt, alloc, bench, b, Event::Send(1), 2);
-    let _b = makes(rt, alloc, bench, b, Event::Done(1), 3);
+// Asks for four events at a new bench, for the one with this number with the memory of attempt n, for the others with
+// ample memory. Returns whether one was refused at first.
+fn is_refused<R: Wait + Abort>(rt: &R, alloc: Global, at: usize, n: usize) -> bool {
+    let (bench, a, b) = opened(rt, alloc);
+    let bytes = budget(at != 0, n);
+    let (_a, first) = makes(rt, alloc, &bench, a, &Event::Exec(0), Want::Made(1), bytes);
+    let bytes = budget(at != 1, n);
+    let (b, second) = makes(
+        rt,
+        alloc,
+        &bench,
+        b,
+        &Event::Exec(1),
+        Want::Stuck(1, 31),
+        bytes,
+    );
+    let bytes = budget(at != 2, n);
+    let (b, third) = makes(rt, alloc, &bench, b, &Event::Send(1), Want::Made(2), bytes);
+    let bytes = budget(at != 3, n);
+    let (_b, fourth) = makes(rt, alloc, &bench, b, &Event::Done(1), Want::Made(3), bytes);
+    first || second || third || fourth
 }
 
-// With ample memory.
-fn made_at_once<R: Wait + Abort>(rt: &R, alloc: Global) {
-    let (bench, a, _b) = opened(rt, alloc);
-    let (_a, answer) = bench.step(rt, a, &Event::Exec(0));
-    holds(rt, outcome(answer, Want::Made(1)) == Outcome::Done);
+// The number of refusals of the event with this number.
+fn refused<R: Wait + Abort>(rt: &R, alloc: Global, at: usize) -> u64 {
+    for n in 0..MOST {
+        if !is_refused(rt, alloc, at, n) {
+            return n as u64;
+        }
+    }
+    panic!(rt; "it is always refused")
 }
 
+/// The second event is stuck, which may take no memory.
 #[test]
 fn steps_at_a_bench_are_refused(rt: HostRuntime) {
-    made_at_once(&rt, rt.alloc());
-    let (bench, a, b) = opened(&rt, rt.alloc());
+    holds(&rt, !is_refused(&rt, rt.alloc(), 4, 0));
     let blocks = fill(&rt, rt.alloc());
-    step_all(&rt, rt.alloc(), &bench, a, b);
+    for at in 0..4 {
+        holds(&rt, refused(&rt, rt.alloc(), at) > 0 || at == 1);
+    }
     drop(blocks);
 }

@@ -4,36 +4,83 @@ ghost use Rattle.jc_scenario.specs.WellFormed.{IsWellFormedScenario};
 ghost use Rattle.jc_scenario.specs.Views.{scenario_view};
 
 use crate::attempts::{Attempt, MOST, Outcome, done_if, holds, is_done, refusals};
-use crate::memory::{UNIT, fill, leave};
-use crate::rows::{INSERTS, dumps, has_dumps, scene};
-use jc_debug::{ActFault, Debugger, GotoFault, RunEnd, RunFault, StepFault};
+use crate::memory::{SPARE, UNIT, fill, leave};
+use crate::rows::{DEEP, DELETION, INSERTS, TOMBSTONE, dumps, has_dumps, scene};
+use jc_debug::{ActFault, DebugRunFault, DebugStepFault, Debugger, GotoFault, RunEnd};
 use jc_rules::{Event, Id};
 use jc_scenario::Scenario;
 use std::alloc::{AllocError, Global};
 use std::process::Abort;
 use std::test::Fail;
 
-fn begun_of(alloc: Global, scenario: Scenario) -> Outcome
+/// A scenario.
+#[derive(Clone, Copy)]
+struct Row {
+    text: &'static str,
+    /// The number of its events.
+    length: usize,
+    /// The number of those that can be made, and the last of them.
+    most: u64,
+    last: Event,
+}
+
+/// The last event where two replicas meet.
+const LAST: Event = Event::Apply(
+    1,
+    Id {
+        counter: 2,
+        replica: 0,
+    },
+);
+
+const ROWS: [Row; 4] = [
+    Row {
+        text: DELETION,
+        length: 14,
+        most: 14,
+        last: LAST,
+    },
+    Row {
+        text: INSERTS,
+        length: 14,
+        most: 14,
+        last: LAST,
+    },
+    Row {
+        text: TOMBSTONE,
+        length: 6,
+        most: 5,
+        last: Event::Exec(0),
+    },
+    Row {
+        text: DEEP,
+        length: 12,
+        most: 12,
+        last: Event::Exec(0),
+    },
+];
+
+fn begun_of(alloc: Global, scenario: Scenario, length: usize) -> Outcome
     requires { IsWellFormedScenario (scenario_view scenario) }
 {
     match Debugger::new(alloc, scenario) {
-        Ok(debugger) => done_if(debugger.position() == 0 && debugger.schedule().len() == 14),
+        Ok(debugger) => done_if(debugger.position() == 0 && debugger.schedule().len() == length),
         Err(_) => Outcome::Refused,
     }
 }
 
-fn begun_with(rt: &impl Abort, alloc: Global, bytes: usize) -> Outcome {
-    let scenario = scene(rt, alloc, INSERTS);
+fn begun_with(rt: &impl Abort, alloc: Global, row: Row, bytes: usize) -> Outcome {
+    let scenario = scene(rt, alloc, row.text);
     let blocks = leave(rt, alloc, bytes);
-    let outcome = begun_of(alloc, scenario);
+    let outcome = begun_of(alloc, scenario, row.length);
     drop(blocks);
     outcome
 }
 
 /// The number of refusals before a debugger is made.
-fn refused_begins(rt: &impl Abort, alloc: Global) -> u64 {
+fn refused_begins(rt: &impl Abort, alloc: Global, row: Row) -> u64 {
     for n in 0..MOST {
-        if is_done(rt, begun_with(rt, alloc, n * UNIT)) {
+        if is_done(rt, begun_with(rt, alloc, row, n * UNIT)) {
             return n as u64;
         }
     }
@@ -42,11 +89,15 @@ fn refused_begins(rt: &impl Abort, alloc: Global) -> u64 {
 
 #[test]
 fn debuggers_are_refused(rt: HostRuntime) {
-    let scenario = scene(&rt, rt.alloc(), INSERTS);
-    holds(&rt, begun_of(rt.alloc(), scenario) == Outcome::Done);
-    let blocks = fill(&rt, rt.alloc());
-    holds(&rt, refused_begins(&rt, rt.alloc()) > 0);
-    drop(blocks);
+    for row in ROWS {
+        holds(
+            &rt,
+            begun_with(&rt, rt.alloc(), row, SPARE) == Outcome::Done,
+        );
+        let blocks = fill(&rt, rt.alloc());
+        holds(&rt, refused_begins(&rt, rt.alloc(), row) > 0);
+        drop(blocks);
+    }
 }
 
 /// A move of the debugger.
@@ -61,7 +112,7 @@ enum Move {
 fn step(debugger: &mut Debugger, n: u64) -> Outcome {
     match debugger.step(n) {
         Ok(()) => Outcome::Done,
-        Err(StepFault::Memory) => Outcome::Refused,
+        Err(DebugStepFault::Memory) => Outcome::Refused,
         Err(_) => Outcome::Wrong,
     }
 }
@@ -76,8 +127,8 @@ fn goto(debugger: &mut Debugger, n: u64) -> Outcome {
 
 fn run(debugger: &mut Debugger) -> Outcome {
     match debugger.run() {
-        Ok(RunEnd::End) => Outcome::Done,
-        Err(RunFault::Memory) => Outcome::Refused,
+        Ok(RunEnd::End) | Ok(RunEnd::Stuck(_)) => Outcome::Done,
+        Err(DebugRunFault::Memory) => Outcome::Refused,
         _ => Outcome::Wrong,
     }
 }
@@ -102,6 +153,8 @@ struct Seen {
 struct Way<'a> {
     alloc: Global,
     debugger: Debugger,
+    /// The number of events of its schedule.
+    length: usize,
     seen: &'a [Seen],
     by: Move,
     from: u64,
@@ -148,9 +201,14 @@ impl<'a> Attempt for Way<'a> {
     fn stands(&mut self) -> bool {
         let here = self.debugger.position();
         self.farthest = self.farthest.max(here);
+        // A run goes on to the end, where an event may be stuck.
+        let bound = match self.by {
+            Move::Run => self.length as u64,
+            _ => self.to,
+        };
         self.from <= here
-            && here < self.to
-            && self.debugger.schedule().len() == 14
+            && here < bound
+            && self.debugger.schedule().len() == self.length
             && self.shows_its_position()
             && self.debugger.back(here.saturating_sub(self.from))
     }
@@ -167,26 +225,18 @@ fn goes(rt: &impl Abort, way: &mut Way<'_>, by: Move, to: u64, least: u64) {
     holds(rt, way.shows_its_position());
 }
 
-/// The last event of the schedule.
-const LAST: Event = Event::Apply(
-    1,
-    Id {
-        counter: 2,
-        replica: 0,
-    },
-);
-
-fn go_all(rt: &impl Abort, way: &mut Way<'_>) {
-    goes(rt, way, Move::Step(14), 14, 1);
-    holds(rt, way.debugger.back(14));
-    goes(rt, way, Move::Run, 14, 1);
-    holds(rt, way.debugger.back(14));
-    goes(rt, way, Move::Goto(13), 13, 1);
-    goes(rt, way, Move::Act(LAST), 14, 13);
+fn go_all(rt: &impl Abort, way: &mut Way<'_>, most: u64, last: Event) {
+    let before = most.saturating_sub(1);
+    goes(rt, way, Move::Step(most), most, 1);
+    holds(rt, way.debugger.back(most));
+    goes(rt, way, Move::Run, most, 1);
+    holds(rt, way.debugger.back(most));
+    goes(rt, way, Move::Goto(before), before, 1);
+    goes(rt, way, Move::Act(last), most, before);
 }
 
-fn begun(rt: &impl Abort, alloc: Global) -> Debugger {
-    let scenario = scene(rt, alloc, INSERTS);
+fn begun(rt: &impl Abort, alloc: Global, text: &str) -> Debugger {
+    let scenario = scene(rt, alloc, text);
     Debugger::new(alloc, scenario).ok().expect(rt, "a debugger")
 }
 
@@ -195,9 +245,10 @@ fn seen_by(
     rt: &impl Abort,
     alloc: Global,
     debugger: &mut Debugger,
+    most: u64,
 ) -> Result<Vec<Seen>, AllocError> {
-    let mut all = Vec::with_capacity(alloc, 15)?;
-    for position in 0..15 {
+    let mut all = Vec::new(alloc);
+    for position in 0..=most {
         holds(rt, debugger.goto(position).is_ok());
         let lines = dumps(alloc, debugger.net()).ok().expect(rt, "dumps");
         let rules = rules(debugger);
@@ -206,21 +257,28 @@ fn seen_by(
     Ok(all)
 }
 
-#[test]
-fn moves_are_refused(rt: HostRuntime) -> Result<(), Fail> {
-    let alloc = rt.alloc();
-    let seen = seen_by(&rt, alloc, &mut begun(&rt, alloc))?;
+fn goes_all_ways(rt: &impl Abort, alloc: Global, row: Row) -> Result<(), AllocError> {
+    let seen = seen_by(rt, alloc, &mut begun(rt, alloc, row.text), row.most)?;
     let mut way = Way {
         alloc,
-        debugger: begun(&rt, alloc),
+        debugger: begun(rt, alloc, row.text),
+        length: row.length,
         seen: &seen,
         by: Move::Run,
         from: 0,
         to: 0,
         farthest: 0,
     };
-    let blocks = fill(&rt, alloc);
-    go_all(&rt, &mut way);
+    let blocks = fill(rt, alloc);
+    go_all(rt, &mut way, row.most, row.last);
     drop(blocks);
+    Ok(())
+}
+
+#[test]
+fn moves_are_refused(rt: HostRuntime) -> Result<(), Fail> {
+    for row in ROWS {
+        goes_all_ways(&rt, rt.alloc(), row)?;
+    }
     Ok(())
 }

@@ -13,6 +13,8 @@ mod debugging;
 #[cfg(test)]
 mod due;
 #[cfg(test)]
+mod halting;
+#[cfg(test)]
 mod memory;
 #[cfg(test)]
 mod networks;
@@ -22,6 +24,8 @@ mod rows;
 mod scenarios;
 #[cfg(test)]
 mod sessions;
+#[cfg(test)]
+mod sharing;
 #[cfg(test)]
 mod steps;
 #[cfg(test)]

@@ -2,14 +2,13 @@
 
 use crate::attempts::{Attempt, Outcome, done_if, holds, refusals};
 use crate::memory::fill;
-use crate::rows::{DELETION, dumps, has_dumps, start};
+use crate::rows::{DEEP, DELETION, INSERTS, TOMBSTONE, dumps, has_dumps, start};
 use jc_dump::{dump_replica, trace_text};
 use jc_meaning::{Comparison, compare};
 use jc_network::{CompareFault, Net};
 use jc_rules::{Event, Id, Rule, Trace};
 use std::alloc::Global;
 use std::process::Abort;
-use std::test::Fail;
 
 /// A question.
 #[derive(Clone, Copy)]
@@ -31,7 +30,7 @@ const ALL: [Asked; 6] = [
     Asked::Traced,
 ];
 
-/// The events that are enabled after the last one.
+/// The events that are enabled where two replicas have met.
 const ENABLED: &[Event] = &[
     Event::Send(0),
     Event::Recv(0, 0),
@@ -71,9 +70,9 @@ fn is_refused(fault: CompareFault) -> Outcome {
     }
 }
 
-fn enabled(net: &Net) -> Outcome {
+fn enabled(net: &Net, want: &[Event]) -> Outcome {
     match net.enabled() {
-        Ok(events) => done_if(events.as_slice() == ENABLED),
+        Ok(events) => done_if(events.as_slice() == want),
         Err(_) => Outcome::Refused,
     }
 }
@@ -127,13 +126,15 @@ struct Ask<'a> {
     net: &'a Net,
     trace: &'a Trace,
     asked: Asked,
+    /// The events that are enabled.
+    events: &'a [Event],
     lines: &'a str,
 }
 
 impl<'a> Attempt for Ask<'a> {
     fn make(&mut self) -> Outcome {
         match self.asked {
-            Asked::Enabled => enabled(self.net),
+            Asked::Enabled => enabled(self.net, self.events),
             Asked::Applied => applied(self.net),
             Asked::AppliedIds => applied_ids(self.net),
             Asked::Dump => dumped(self.alloc, self.net),
@@ -147,34 +148,37 @@ impl<'a> Attempt for Ask<'a> {
     }
 }
 
-/// Asks everything with ample memory.
-fn is_told(rt: &impl Abort, ask: &mut Ask<'_>) {
-    for asked in ALL {
-        ask.asked = asked;
+/// Asks all of this with ample memory.
+fn is_told(rt: &impl Abort, ask: &mut Ask<'_>, all: &[Asked]) {
+    for asked in all {
+        ask.asked = *asked;
         holds(rt, ask.make() == Outcome::Done);
     }
 }
 
-/// Asks everything with little memory.
-fn is_refused_and_told(rt: &impl Abort, ask: &mut Ask<'_>) {
-    for asked in ALL {
-        ask.asked = asked;
+/// Asks all of this with little memory.
+fn is_refused_and_told(rt: &impl Abort, ask: &mut Ask<'_>, all: &[Asked]) {
+    for asked in all {
+        ask.asked = *asked;
         holds(rt, refusals(rt, ask.alloc, ask) > 0);
     }
 }
 
-fn ask_all(rt: &impl Abort, alloc: Global, net: &Net, trace: &Trace) {
+fn ask_all(rt: &impl Abort, alloc: Global, net: &Net, all: &[Asked], events: &[Event]) {
+    let mut trace = Trace::new(alloc);
+    holds(rt, trace.push(Rule::Send).is_ok());
     let lines = dumps(alloc, net).ok().expect(rt, "dumps");
     let mut ask = Ask {
         alloc,
         net,
-        trace,
+        trace: &trace,
         asked: Asked::Enabled,
+        events,
         lines: lines.as_str(),
     };
-    is_told(rt, &mut ask);
+    is_told(rt, &mut ask, all);
     let blocks = fill(rt, alloc);
-    is_refused_and_told(rt, &mut ask);
+    is_refused_and_told(rt, &mut ask, all);
     drop(blocks);
 }
 
@@ -184,12 +188,20 @@ fn run_on(rt: &impl Abort, net: &mut Net, events: &[Event]) {
     }
 }
 
+/// A scenario, how many of its events are executed, what is asked then, and the events that are enabled.
+const ROWS: [(&str, usize, &[Asked], &[Event]); 4] = [
+    (DELETION, 14, &ALL, ENABLED),
+    (INSERTS, 14, &[Asked::Enabled], ENABLED),
+    (TOMBSTONE, 4, &[Asked::Enabled], &[Event::Exec(0)]),
+    (DEEP, 11, &[Asked::Enabled], &[Event::Exec(0)]),
+];
+
 #[test]
-fn answers_are_refused(rt: HostRuntime) -> Result<(), Fail> {
-    let (mut net, events) = start(&rt, rt.alloc(), DELETION);
-    run_on(&rt, &mut net, &events);
-    let mut trace = Trace::new(rt.alloc());
-    trace.push(Rule::Send)?;
-    ask_all(&rt, rt.alloc(), &net, &trace);
-    Ok(())
+fn answers_are_refused(rt: HostRuntime) {
+    for (text, count, all, enabled) in &ROWS {
+        let (mut net, mut events) = start(&rt, rt.alloc(), text);
+        events.truncate(*count);
+        run_on(&rt, &mut net, &events);
+        ask_all(&rt, rt.alloc(), &net, all, enabled);
+    }
 }

@@ -30,6 +30,9 @@ pub const DEEP: &str =
 pub const WORDS: &str =
     "jsoncrdt 2\nreplica a {\n  let x = doc.get(\"k\\n\").idx(4294967295);\n  x := -1.5e3;\n  x.insertAfter(\"s\");\n  x.delete;\n  let y = x.keys;\n  let z = doc.values;\n  doc := true;\n  doc := false;\n  doc := null;\n  doc := {};\n  doc := [];\n  yield;\n}\nreplica b {\n  yield;\n}\ngiven {\n  b.send;\n  b.recv(a);\n}\nschedule {\n  a.exec;\n  a.send;\n  a.done;\n  b.recv(a);\n  b.apply(1, a);\n}\n";
 
+/// These texts, and the other scenarios.
+pub const TEXTS: [&str; 5] = [WORDS, DELETION, INSERTS, TOMBSTONE, DEEP];
+
 /// The scenario with this text, which is one.
 pub fn scene(rt: &impl Abort, alloc: Global, text: &str) -> Scenario
     ensures { IsWellFormedScenario (scenario_view result) }

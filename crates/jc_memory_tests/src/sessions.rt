@@ -3,6 +3,7 @@
 use crate::attempts::{Attempt, Outcome, done_if, holds, refusals, refused_if};
 use crate::due::Due;
 use crate::memory::fill;
+use crate::rows::{DEEP, DELETION, INSERTS, TOMBSTONE};
 use jc_fakes::Bytes;
 use jc_session::{SessionEnd, SessionFault, session};
 use std::alloc::{AllocError, Global};
@@ -49,6 +50,38 @@ const TALK: &[(&str, &str)] = &[
     ("where", "at 6 of 6\n"),
     ("jump", "refused 58 BadLine\n"),
     ("act a.jump", "refused 7 Unexpected at 2\n"),
+];
+
+const MET: &[(&str, &str)] = &[
+    ("goto 14", "at 14\n"),
+    (
+        "state b",
+        "{\"acted\":true,\"left\":1,\"name\":\"b\",\"ops\":[\"1@a\",\"2@a\",\"2@b\"],\"queue\":[\"2@b\"],\"recv\":[\"1@a\",\"2@a\"],\"send\":[\"2@b\"],\"tree\":{\"mapT(doc)\":{\"mapT(\\\"m\\\")\":{\"pres(\\\"k\\\")\":[\"2@b\"],\"regT(\\\"k\\\")\":{\"2@b\":{\"n\":\"1\"}}},\"pres(\\\"m\\\")\":[\"2@b\"]},\"pres(doc)\":[\"1@a\",\"2@b\"]},\"vars\":{}}\n",
+    ),
+    ("compare a b", "same operations same tree\n"),
+];
+
+const MET_IN_A_LIST: &[(&str, &str)] = &[
+    ("step 14", "at 14\n"),
+    (
+        "trace",
+        "event 14 b.apply(2, a)\n0 APPLY-REMOTE\n1 DESCEND\n2 CHILD-GET\n2 DESCEND\n3 CHILD-GET\n3 INSERT2\n4 INSERT1\n5 ASSIGN\n6 CLEAR-NONE\n6 ADD-ID1\n7 PRESENCE2\n6 CHILD-REG\n3 ADD-ID1\n4 PRESENCE1\n2 ADD-ID1\n3 PRESENCE1\n",
+    ),
+    ("back 14", "at 0\n"),
+];
+
+const PAST_THE_END: &[(&str, &str)] = &[
+    ("run", "at 5\nstuck 26 PastEnd a.exec\n"),
+    (
+        "trace",
+        "event 5 a.exec\n0 EXEC\n1 LET\n2 IDX1\n3 DOC\n3 IDX2\n4 IDX4\n5 IDX3\n6 IDX5\n",
+    ),
+];
+
+const DEEP_DOWN: &[(&str, &str)] = &[
+    ("run", "at 12\nend\n"),
+    ("trace", "event 12 a.exec\n0 EXEC\n1 LET\n2 GET\n3 VAR\n"),
+    ("step", "refused 51 AtEnd\n"),
 ];
 
 /// The line of a text that is no scenario.
@@ -131,11 +164,21 @@ fn refused_talk(
     Ok(refused)
 }
 
+/// A scenario, and the lines of a session with their answers.
+const TALKS: [(&str, &[(&str, &str)]); 6] = [
+    (RECEIVED, TALK),
+    (DELETION, MET),
+    (INSERTS, MET_IN_A_LIST),
+    (TOMBSTONE, PAST_THE_END),
+    (DEEP, DEEP_DOWN),
+    ("", NO_HEADER),
+];
+
 #[test]
 fn sessions_are_refused(rt: HostRuntime) -> Result<(), Fail> {
-    let refused = refused_talk(&rt, rt.alloc(), RECEIVED, TALK)?;
-    holds(&rt, refused > 100);
-    let refused = refused_talk(&rt, rt.alloc(), "", NO_HEADER)?;
-    holds(&rt, refused > 0);
+    for (scenario, talk) in &TALKS {
+        let refused = refused_talk(&rt, rt.alloc(), scenario, talk)?;
+        holds(&rt, refused > if scenario.is_empty() { 0 } else { 100 });
+    }
     Ok(())
 }

@@ -14,10 +14,11 @@ use crate::commands::texts;
 use crate::due::AnyOf;
 use crate::memory::{SPARE, block, fill_beside_threads, leave};
 use crate::rows::{DELETION, scene};
+use jc_choice::End;
 use jc_fakes::Bytes;
 use jc_io::ReadFault;
 use jc_program::{Files, work};
-use jc_runner::{End, Gate, Report, RunFault, run_threads};
+use jc_runner::{Gate, Report, RunFault, run_threads};
 use jc_scenario::Scenario;
 use std::alloc::{AllocError, Global};
 use std::process::Abort;
@@ -111,13 +112,13 @@ fn outcome_of(report: &Report) -> Outcome {
     outcome
 }
 
-/// Whether the schedule has as many events as were made.
+/// Whether the schedule has as many events as were made, of which none can be taken back.
 fn is_summed(report: &Report) -> bool {
     let mut all = 0u64;
     for made in &report.made {
         all = all.saturating_add(*made);
     }
-    all == report.schedule.len() as u64 && all == report.net.steps()
+    all == report.schedule.len() as u64 && report.net.steps() == 0
 }
 
 /// A run of two threads.

@@ -163,7 +163,7 @@ fn steps_are_recorded(rt: HostRuntime) -> Result<(), Fail> {
     holds(&rt, recorded.schedule.as_slice() == RECORDED);
     holds(
         &rt,
-        recorded.net.steps() == 3 && recorded.start.schedule.is_empty(),
+        recorded.net.steps() == 0 && recorded.start.schedule.is_empty(),
     );
     Ok(())
 }

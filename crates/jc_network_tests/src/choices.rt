@@ -2,9 +2,9 @@
 
 use crate::nets::{DELETION, FIRST, holds};
 use crate::turns::{Turn, in_network};
+use jc_choice::{Phase, choose};
 use jc_network::Net;
 use jc_rules::Event;
-use jc_runner::{Phase, choose};
 use std::process::Abort;
 use std::test::Fail;
 

@@ -1,8 +1,8 @@
 //! Tests of the copies of faults: those of networks and of debuggers.
 
 use crate::nets::{after, holds, scene};
-use jc_debug::{ActFault, Debugger, GotoFault, RunEnd, StepFault};
-use jc_network::{StepFault as NetFault, Stuck};
+use jc_debug::{ActFault, DebugStepFault, Debugger, GotoFault, RunEnd};
+use jc_network::{StepFault, Stuck};
 use jc_rules::Event;
 use std::alloc::{AllocError, Global};
 use std::process::Abort;
@@ -19,16 +19,16 @@ fn are_alike(one: &Stuck, other: &Stuck) -> bool {
         && one.event == other.event
 }
 
-fn is_net_fault_copied(fault: &NetFault) -> Result<bool, AllocError> {
+fn is_net_fault_copied(fault: &StepFault) -> Result<bool, AllocError> {
     match (fault, &fault.copy()?) {
-        (NetFault::Stuck(stuck), NetFault::Stuck(copy)) => Ok(are_alike(stuck, copy)),
+        (StepFault::Stuck(stuck), StepFault::Stuck(copy)) => Ok(are_alike(stuck, copy)),
         _ => Ok(false),
     }
 }
 
-fn is_step_fault_copied(fault: &StepFault) -> Result<bool, AllocError> {
+fn is_step_fault_copied(fault: &DebugStepFault) -> Result<bool, AllocError> {
     match (fault, &fault.copy()?) {
-        (StepFault::Stuck(stuck), StepFault::Stuck(copy)) => Ok(are_alike(stuck, copy)),
+        (DebugStepFault::Stuck(stuck), DebugStepFault::Stuck(copy)) => Ok(are_alike(stuck, copy)),
         _ => Ok(false),
     }
 }

@@ -1,13 +1,11 @@
 //! Tests of sessions that are cut short, by a source, a sink or a limit.
 
 use crate::nets::holds;
-use crate::sessions::{EMPTY, RECEIVED, ends};
+use crate::sessions::{ANSWERS, EMPTY, LINES, RECEIVED, ends};
 use jc_fakes::{Bytes, FailsAt, OneByte, Taken, TakesUpTo, Then};
 use jc_io::Source;
 use std::process::Abort;
 use std::test::Fail;
-
-const LINES: &str = "goto 4\nact b.apply(2, a)\nact b.apply(1, a)\nwhere\n";
 
 /// Expects a session on these lines to end so, after it wrote this.
 fn writes<R: AllocGlobal + Abort, S: Source>(rt: &R, lines: &mut S, end: u8, want: &str) {
@@ -19,25 +17,25 @@ fn writes<R: AllocGlobal + Abort, S: Source>(rt: &R, lines: &mut S, end: u8, wan
 #[test]
 fn one_byte_a_call(rt: HostRuntime) {
     let mut lines = OneByte::new(Bytes::new(LINES.as_bytes()));
-    let all = "at 4\nat 4\nstuck 36 DepsMissing b.apply(2, a)\nat 5\nat 5 of 5\n";
-    writes(&rt, &mut lines, 0, all);
+    writes(&rt, &mut lines, 0, ANSWERS);
 }
 
 /// Where each read gives one byte, a failed read comes after the answers of all lines whose LF was read: the lines have
-/// 7, 18, 18 and 6 bytes, and one more read finds the end.
+/// 7, three times 18, and 8 bytes, and one more read finds the end.
 #[test]
 fn a_read_that_fails(rt: HostRuntime) {
     let first = "at 4\n";
     let second = "at 4\nat 4\nstuck 36 DepsMissing b.apply(2, a)\n";
     let third = "at 4\nat 4\nstuck 36 DepsMissing b.apply(2, a)\nat 5\n";
-    let all = "at 4\nat 4\nstuck 36 DepsMissing b.apply(2, a)\nat 5\nat 5 of 5\n";
-    for k in 0..50 {
+    let fourth = "at 4\nat 4\nstuck 36 DepsMissing b.apply(2, a)\nat 5\nat 6\n";
+    for k in 0..70 {
         let want = match k {
             0..=6 => "",
             7..=24 => first,
             25..=42 => second,
-            43..=48 => third,
-            _ => all,
+            43..=60 => third,
+            61..=68 => fourth,
+            _ => ANSWERS,
         };
         let mut lines = FailsAt::new(OneByte::new(Bytes::new(LINES.as_bytes())), k);
         writes(&rt, &mut lines, 55, want);

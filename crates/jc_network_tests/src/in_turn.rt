@@ -1,17 +1,13 @@
 //! Tests that each answer is written and flushed before the next line is read.
 
 use crate::nets::holds;
-use crate::sessions::{RECEIVED, ends};
+use crate::sessions::{ANSWERS, LINES, RECEIVED, ends};
 use jc_fakes::Taken;
 use jc_io::{Failed, Sink, Source};
 use std::cell::Cell;
 
-const LINES: &str = "goto 4\nact b.apply(2, a)\nact b.apply(1, a)\nact b.apply(2, a)\nwhere\n";
-
-const ANSWERS: &str = "at 4\nat 4\nstuck 36 DepsMissing b.apply(2, a)\nat 5\nat 6\nat 6 of 6\n";
-
 /// How many bytes the answers of the first lines have: of none, of one, and so on.
-const DUE: [u64; 6] = [0, 5, 45, 50, 55, 65];
+const DUE: [u64; 6] = [0, 5, 45, 50, 55, 271];
 
 /// What the sink has seen, for the source to look at.
 #[derive(Drop)]
@@ -112,5 +108,5 @@ fn in_turn(rt: HostRuntime) {
     ends(&rt, RECEIVED, &mut lines, &mut out, 0);
     holds(&rt, out.sink.as_slice() == ANSWERS.as_bytes());
     holds(&rt, !lines.too_early && lines.lines == 5);
-    holds(&rt, seen.flushes.get() == 5 && seen.flushed.get() == 65);
+    holds(&rt, seen.flushes.get() == 5 && seen.flushed.get() == 271);
 }

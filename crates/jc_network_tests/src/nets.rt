@@ -28,6 +28,9 @@ pub const LISTS: &str =
 pub const PAST_THE_END: &str =
     "jsoncrdt 1 replica a { doc := []; doc.idx(0).insertAfter(\"x\"); doc.idx(1).insertAfter(\"y\"); doc.idx(1).delete; let z = doc.idx(1); let w = doc.idx(2) }";
 
+/// One assignment.
+pub const ONE: &str = "jsoncrdt 1 replica a { doc.get(\"a\") := 1 }";
+
 /// A replica that only yields.
 pub const YIELD: &str = "jsoncrdt 1 replica a { yield }";
 

@@ -1,7 +1,7 @@
 //! Tests of calls of networks: replicas that aren't there, networks that are full, and the events that can be made.
 
 use crate::nets::{
-    DELETION, DELETION_IN_TWO, FIRST, INSERTS, MEETING, SECOND_OF_A, SECOND_OF_B, STUCK_GIVEN,
+    DELETION, DELETION_IN_TWO, FIRST, INSERTS, MEETING, ONE, SECOND_OF_A, SECOND_OF_B, STUCK_GIVEN,
     YIELD, holds, number_of, scene, stuck_given,
 };
 use crate::turns::{Turn, in_network};
@@ -13,7 +13,8 @@ use std::alloc::{AllocError, Global};
 use std::process::Abort;
 use std::test::Fail;
 
-/// Each event of a replica that isn't there is refused, also one that the version hasn't.
+/// Each event of a replica that isn't there is refused, also one that the version hasn't. Of a replica that is there,
+/// such an event is refused for that.
 fn events_are_refused(rt: &impl Abort, net: &mut Net) {
     for event in [
         Event::Exec(5),
@@ -25,6 +26,7 @@ fn events_are_refused(rt: &impl Abort, net: &mut Net) {
     ] {
         holds(rt, number_of(net, &event) == 37);
     }
+    holds(rt, number_of(net, &Event::Take(0, 0, FIRST)) == 39);
 }
 
 fn are_compared(alloc: Global, net: &Net, p: u16, q: u16) -> bool {
@@ -57,7 +59,10 @@ pub fn missing_replicas(rt: &impl Abort, alloc: Global, net: &mut Net) {
 
 #[test]
 fn replicas_are_missing(rt: HostRuntime) -> Result<(), Fail> {
-    in_network(&rt, rt.alloc(), YIELD, &[], &Turn::MissingReplicas)
+    for text in [ONE, YIELD] {
+        in_network(&rt, rt.alloc(), text, &[], &Turn::MissingReplicas)?;
+    }
+    Ok(())
 }
 
 fn send(rt: &impl Abort, net: &mut Net, times: u64) {

@@ -3,14 +3,15 @@
 ghost use Rattle.std.specs.Prelude.{IfOk};
 ghost use Rattle.jc_scenario.specs.WellFormed.{IsWellFormedScenario};
 ghost use Rattle.jc_scenario.specs.Views.{scenario_view};
-ghost use Rattle.jc_runner.specs.Laws.{with_schedule};
+ghost use Rattle.jc_choice.specs.Laws.{with_schedule};
 
 use crate::gates::{Open, Own, Signal, open_gates};
 use crate::nets::{DELETION, INSERTS, PAST_THE_END, STUCK_GIVEN, dumps, holds, scene};
 use crate::turns::{Turn, in_run};
+use jc_choice::End;
 use jc_network::Net;
 use jc_rules::Event;
-use jc_runner::{End, Gate, Report, RunFault, run_threads};
+use jc_runner::{Gate, Report, RunFault, run_threads};
 use jc_scenario::{Scenario, print};
 use std::alloc::{AllocError, Global};
 use std::process::Abort;
@@ -402,7 +403,7 @@ fn is_filled(rt: &impl Abort, report: &Report) {
     made_and_ended(rt, report, &[full, full]);
     holds(
         rt,
-        report.schedule.len() == 100_000 && report.net.steps() == 100_000,
+        report.schedule.len() == 100_000 && report.net.steps() == 0,
     );
 }
 

@@ -14,6 +14,14 @@ pub const RECEIVED: &str = "jsoncrdt 1
     replica b { yield }
     schedule { a.exec; a.exec; a.send; b.recv(a) }";
 
+/// Lines for them.
+pub const LINES: &str =
+    "goto 4\nact b.apply(2, a)\nact b.apply(1, a)\nact b.apply(2, a)\nstate b\n";
+
+/// Their answers.
+pub const ANSWERS: &str =
+    "at 4\nat 4\nstuck 36 DepsMissing b.apply(2, a)\nat 5\nat 6\n{\"acted\":true,\"left\":1,\"name\":\"b\",\"ops\":[\"1@a\",\"2@a\"],\"queue\":[],\"recv\":[\"1@a\",\"2@a\"],\"send\":[],\"tree\":{\"mapT(doc)\":{\"pres(\\\"a\\\")\":[\"1@a\",\"2@a\"],\"regT(\\\"a\\\")\":{\"2@a\":{\"n\":\"2\"}}},\"pres(doc)\":[\"1@a\",\"2@a\"]},\"vars\":{}}\n";
+
 /// Expects a session to end so: 0 where it is finished, else the number of the refusal, and 255 for want of memory.
 pub fn ends<R: AllocGlobal + Abort, S: Source, K: Sink>(
     rt: &R,

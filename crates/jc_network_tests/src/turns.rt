@@ -9,9 +9,9 @@ use crate::networks::{
     all_is_told, counts_none_given, missing_replicas, takes_100_000, takes_are_refused,
 };
 use crate::undoing::there_and_back;
+use jc_choice::Phase;
 use jc_network::Net;
 use jc_rules::Event;
-use jc_runner::Phase;
 use std::alloc::Global;
 use std::cell::Cell;
 use std::process::Abort;

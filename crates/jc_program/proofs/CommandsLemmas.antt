@@ -74,11 +74,11 @@ of_view (Run trace) bytes shown status (Ok s, is, inl h) = subst (IsEnd bytes) (
 of_view (Run trace) bytes shown status (Ok s, is, inr h) = of_given bytes s shown status is h
 of_view (Document n) bytes shown status (Ok s, is, inl h) = subst (IsEnd bytes) (sym h.ends) (of_run bytes (s, h.start, is, h.is_start) h.stuck)
 of_view (Document n) bytes shown status (Ok s, is, inr h) = of_given bytes s shown status is h
-of_view (Journal trace) bytes shown status (Ok s, is, J.given_stuck last (event, why) h) =
-    let first = first_stuck trace true s.names (before_given s) s.given last event why shown h in
+of_view (Journal trace effects) bytes shown status (Ok s, is, J.given_stuck last (event, why) h) =
+    let first = first_stuck (record { rules = trace; effects = effects }) true s.names (before_given s) s.given last event why shown h in
     given_stuck (s, first.0, event, why, is, first.1)
-of_view (Journal trace) bytes shown status (Ok s, is, J.ran start last stuck first text given h out) =
-    of_run bytes (s, start, is, all_led trace true s.names (before_given s) s.given start first given) stuck
+of_view (Journal trace effects) bytes shown status (Ok s, is, J.ran start last stuck first text given h out) =
+    of_run bytes (s, start, is, all_led (record { rules = trace; effects = effects }) true s.names (before_given s) s.given start first given) stuck
 
 pub of_session : (bytes : List ℕ) (lines : Option (List ℕ)) (end : End) (a b : Stream) (status : ℕ) → session_status end ≡ Some status → ShowsTo bytes lines end a b → IsEnd bytes status
 of_session bytes lines S.finished a b status e h = subst (IsEnd bytes) (same_Some 0 status e) well

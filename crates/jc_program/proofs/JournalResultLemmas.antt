@@ -1,12 +1,15 @@
 -- About JournalResult: one line, a journal that goes on by one event, and its end. `journal_next` and `journal_events`
 -- use it.
-use Rattle.std.proofs.Common.{◌≡◌, ℕ, ◌+◌, ◌<◌, List, [], ◌∷◌, ◌++◌, length, take, drop, get_or, Bool, Option, Some, None, true, false, Result, Ok, Err, IfErr, IsErrOf, inl, inr, refl, sym, ◌∙◌, ap, subst, append-nil, arith}
+use Rattle.std.proofs.Common.{◌≡◌, ℕ, ◌+◌, ◌<◌, List, [], ◌∷◌, ◌++◌, length, take, drop, get_or, Bool, Option, Some, None, is_some, option_copied, IfSome, true, false, Result, Ok, Err, IfErr, IsErrOf, inl, inr, refl, sym, ◌∙◌, ap, subst, append-nil, arith}
+use Rattle.std.specs.Borrow.{Bor}
 use Rattle.std.proofs.lemmas.List.{take_more, take-append-drop}
 use Rattle.std.proofs.Math.Seq.{take-length}
 use Rattle.jc_rules.specs.declared.operation.Event.{Event}
 use Rattle.jc_rules.specs.declared.rule.Rule.{Rule}
 use Rattle.jc_rules.specs.Refused.{Cause, IsStuckIn}
-use Rattle.jc_rules.specs.Step.{Network}
+use Rattle.jc_rules.proofs.VersionLemmas.{one_step_in}
+use Rattle.jc_rules.specs.State.{State}
+use Rattle.jc_rules.specs.Step.{Network, StepIn}
 use Rattle.jc_rules.specs.Trace.{Rows}
 use Rattle.jc_printer.specs.Canon.{AreNamed}
 use Rattle.jc_network.specs.declared.fault.Stuck.{Stuck as StuckEvent}
@@ -14,20 +17,23 @@ use Rattle.jc_rules.specs.History.{begun}
 use Rattle.jc_network.specs.NetworkHistory.{NetworkHistory, StepsTo}
 use Rattle.jc_network.specs.Steps.{IsStuckFor, stuck_for}
 use Rattle.jc_dump.specs.Lines.{IsNamedStuck}
+use Rattle.jc_effects.specs.declared.effects.Effects.{Effects}
+use Rattle.jc_effects.specs.Difference.{Differences}
+use Rattle.jc_journal.specs.Parts.{differences_in, differences_at}
 use Rattle.jc_journal.specs.declared.before.Before.{Before}
 use Rattle.jc_journal.specs.declared.event.NumberedEvent.{NumberedEvent}
 use Rattle.jc_journal.specs.Before.{IsNoted}
-use Rattle.jc_journal.specs.EventLine.{event_line}
+use Rattle.jc_journal.specs.EventLine.{AreEffects, event_line}
 use Rattle.jc_journal.specs.StuckLine.{stuck_event_line}
 use Rattle.jc_session.specs.Written.{Stream, Wrote, WrotePart, Written, WrittenInPart}
 use Rattle.jc_session.proofs.WrittenLemmas.{wrote_both, part_after}
 use Rattle.jc_program.specs.declared.run.RunFault.{RunFault}
 use Rattle.jc_program.specs.declared.run.RunFault.TheVariants.{Write}
-use Rattle.jc_program.specs.JournalResult.{OfEventLine, OfStuckLine, JournalsNext, IsNextLine, JournalsAll, AreLinesDue}
-use Rattle.jc_program.specs.Journals.{rows_asked, JournalBy, JournalOf, JournalBegins}
+use Rattle.jc_program.specs.JournalResult.{asked_by, IsBehind, CatchesUp, IsLineOf, OfStuckLine, JournalsNext, IsNextLine, JournalsAll, AreLinesDue}
+use Rattle.jc_program.specs.Journals.{Asked, rows_asked, IsEventLine, JournalBy, JournalOf, JournalStops}
 use Rattle.jc_program.specs.Runs.{Made, events_of}
 use Rattle.jc_program.proofs.JournalsLemmas.{lines_more, journal_to}
-use Rattle.jc_program.proofs.PlayResultLemmas.{made_count, events_of-append}
+use Rattle.jc_program.proofs.PlayResultLemmas.{made_count, events_of-append, split_here}
 
 -- ---- one line
 
@@ -36,23 +42,72 @@ pub cut_of : {T : Type 0} (r : Result T RunFault) (text : List ℕ) (a b : Strea
 cut_of (Ok v) text a b h k = absurd cc
 cut_of (Err fault) text a b h k = h.1
 
-module _ (trace : Bool) (old new : NetworkHistory) (e : NumberedEvent) (before : Before) (noted : IsNoted e.event old.history.now.states before) (rows : Rows) (to : StepsTo old e.event new rows) (asked : Option (List (Rule × ℕ))) (are_asked : asked ≡ rows_asked trace rows.rows) where
-  abbrev own_line : List ℕ
-  own_line = event_line old.names e.given e.number e.event (rows_asked trace rows.rows) to.step.step.before to.step.step.after
-
-  of_own_line : (Holds : List ℕ → Type 0) → OfEventLine new e before asked Holds → Holds own_line
-  of_own_line Holds h =
-      subst (λ (ns : List (List ℕ)). Holds (event_line ns e.given e.number e.event (rows_asked trace rows.rows) to.step.step.before to.step.step.after)) to.names
-      (subst (λ (rules : Option (List (Rule × ℕ))). Holds (event_line new.names e.given e.number e.event rules to.step.step.before to.step.step.after)) are_asked (h old.history.now rows.rows to.step noted))
+module _ (asked : Asked) (old new : NetworkHistory) (behind : Option NetworkHistory) (e : NumberedEvent) (before : Before) (noted : IsNoted e.event old.history.now.states before) (rows : Rows) (to : StepsTo old e.event new rows) (rules : Option (List (Rule × ℕ))) (are_rules : rules ≡ rows_asked asked.rules rows.rows) (told : is_some behind ≡ asked.effects) (is_behind : IsBehind behind old.history.now) where
+  own_line : (line : List ℕ) → IsLineOf new behind e before rules line → IsEventLine asked e.given old.names e.number e.event rows.rows to.step.step.before to.step.step.after line
+  own_line line h =
+      let A = to.step.step.before in
+      let B = to.step.step.after in
+      let x = h old.history.now rows.rows to.step noted is_behind in (
+        x.0,
+        subst (λ (b : Bool). AreEffects b e.event A B x.0) told x.1,
+        x.2 ∙ (λ i. event_line (to.names i) e.given e.number e.event (are_rules i) x.0 A B),
+      )
 
   -- an event that was made
-  pub event_sent : (a b : Stream) → OfEventLine new e before asked (λ line. Wrote line a b) → JournalsNext trace old new e a b false
-  event_sent a b h = (rows, to, of_own_line (λ line. Wrote line a b) h)
+  pub event_sent : (line : List ℕ) (a b : Stream) → IsLineOf new behind e before rules line → Wrote line a b → JournalsNext asked old new e a b false
+  event_sent line a b h wrote = (rows, to, line, own_line line h, wrote)
 
-  pub event_cut : (a b : Stream) → OfEventLine new e before asked (λ line. WrotePart line a b) → WrittenInPart (IsNextLine trace old.names old.history.now e) a b
-  event_cut a b h = (own_line, inl (rows.rows, new.history.now, to.step, refl), of_own_line (λ line. WrotePart line a b) h)
+  pub event_cut : (line : List ℕ) (a b : Stream) → IsLineOf new behind e before rules line → WrotePart line a b → WrittenInPart (IsNextLine asked old.names old.history.now e) a b
+  event_cut line a b h part = (line, inl (rows.rows, new.history.now, to.step, own_line line h), part)
 
-module _ (trace : Bool) (old new : NetworkHistory) (e : NumberedEvent) (s : StuckEvent) (x : IsStuckFor old.history.now e.event s) (same : new ≡ old) where
+-- ---- the network behind
+
+-- what is told of effects, by a reference to them
+told_at : (r : Option (Bor Effects)) → differences_at r ≡ differences_in (option_copied r)
+told_at None = refl
+told_at (Some r) = refl
+
+-- what differs from the network behind is what the event changed
+pub told_some : (c : NetworkHistory) (e : Event) (new : Network) (x : Option Differences) → ((rows : List (Rule × ℕ)) → (made : StepIn c.history.now e new rows) → AreEffects true e made.step.before made.step.after x)
+    → (first : Network) (rows : List (Rule × ℕ)) → (made : StepIn first e new rows) → IsBehind (Some c) first → AreEffects true e made.step.before made.step.after x
+told_some c e new x h first rows made b = subst (λ (F : Network). (ls : List (Rule × ℕ)) → (s : StepIn F e new ls) → AreEffects true e s.step.before s.step.after x) b.0 h rows made
+
+-- the line of an event, with what is told of its effects
+pub line_told : (net : NetworkHistory) (behind : Option NetworkHistory) (e : NumberedEvent) (before : Before) (rules : Option (List (Rule × ℕ))) (effects : Option Effects) (r : Option (Bor Effects)) (line : List ℕ)
+    → option_copied r ≡ effects
+    → ((first : Network) (rows : List (Rule × ℕ)) → (made : StepIn first e.event net.history.now rows) → IsBehind behind first → AreEffects (is_some behind) e.event made.step.before made.step.after (differences_in effects))
+    → ((first : Network) (rows : List (Rule × ℕ)) → (made : StepIn first e.event net.history.now rows) → IsNoted e.event first.states before → line ≡ event_line net.names e.given e.number e.event rules (differences_at r) made.step.before made.step.after)
+    → IsLineOf net behind e before rules line
+line_told net behind e before rules effects r line same told h first rows made noted b =
+    (differences_in effects, told first rows made b, h first rows made noted ∙ ap (λ (x : Option Differences). event_line net.names e.given e.number e.event rules x made.step.before made.step.after) (told_at r ∙ ap differences_in same))
+
+-- it is at the network before the event
+pub behind_made : (behind : Option NetworkHistory) (event : Event) (old new : Network) (rows : List (Rule × ℕ)) → IsBehind behind old → StepIn old event new rows → IfSome behind (λ c. (ls : List (Rule × ℕ)) × StepIn c.history.now event new ls)
+behind_made None event old new rows b s = tt
+behind_made (Some c) event old new rows b s = (rows, subst (λ (N : Network). StepIn N event new rows) (sym b.0) s)
+
+pub behind_noted : (behind : Option NetworkHistory) (event : Event) (old : Network) (before : Before) → IsBehind behind old → IsNoted event old.states before → IfSome behind (λ c. IsNoted event c.history.now.states before)
+behind_noted None event old before b n = tt
+behind_noted (Some c) event old before b n = subst (λ (N : Network). IsNoted event N.states before) (sym b.0) n
+
+pub behind_new : (behind : Option NetworkHistory) (old : Network) → IsBehind behind old → IfSome behind (λ c. c.history.earlier ≡ [])
+behind_new None old b = tt
+behind_new (Some c) old b = b.1
+
+-- once it has made the event it is at the network after it
+pub caught_up : (event : Event) (behind now : Option NetworkHistory) (old new : Network) (rows : List (Rule × ℕ)) → IsBehind behind old → CatchesUp event behind now → StepIn old event new rows → IsBehind now new × (is_some now ≡ is_some behind)
+caught_up event None None old new rows b h s = (tt, refl)
+caught_up event None (Some d) old new rows b h s = absurd h
+caught_up event (Some c) None old new rows b h s = absurd h
+caught_up event (Some c) (Some d) old new rows b h s =
+    let from = subst (λ (N : Network). StepIn N event d.history.now h.0.0) b.0 h.0.1 in
+    (((one_step_in old event d.history.now new h.0.0 rows from s).0, h.1), refl)
+
+-- what holds by a network behind holds by what was asked for
+pub asked_for : (P : Asked → Type 0) (trace : Bool) (behind : Option NetworkHistory) (effects : Bool) → is_some behind ≡ effects → P (asked_by trace behind) → P (record { rules = trace; effects = effects })
+asked_for P trace behind effects told h = subst (λ (b : Bool). P (record { rules = trace; effects = b })) told h
+
+module _ (asked : Asked) (old new : NetworkHistory) (e : NumberedEvent) (s : StuckEvent) (x : IsStuckFor old.history.now e.event s) (same : new ≡ old) where
   its_event : s.event ≡ e.event
   its_event = ap (λ (t : StuckEvent). t.event) x.is
 
@@ -74,19 +129,19 @@ module _ (trace : Bool) (old new : NetworkHistory) (e : NumberedEvent) (s : Stuc
     named = subst (λ (c : NetworkHistory). AreNamed e.event (length c.names)) (sym same) named;
   }
 
-  pub stuck_sent : (a b : Stream) → OfStuckLine new e s (λ line. Wrote line a b) → JournalsNext trace old new e a b true
+  pub stuck_sent : (a b : Stream) → OfStuckLine new e s (λ line. Wrote line a b) → JournalsNext asked old new e a b true
   stuck_sent a b h = (same, x.why, x.stuck, of_stuck_own (λ line. Wrote line a b) h)
 
-  pub stuck_cut : (a b : Stream) → OfStuckLine new e s (λ line. WrotePart line a b) → WrittenInPart (IsNextLine trace old.names old.history.now e) a b
+  pub stuck_cut : (a b : Stream) → OfStuckLine new e s (λ line. WrotePart line a b) → WrittenInPart (IsNextLine asked old.names old.history.now e) a b
   stuck_cut a b h = (stuck_own, inr (x.why, x.stuck, refl), of_stuck_own (λ line. WrotePart line a b) h)
 
 -- ---- all events
 
 -- the events before a place of the list were made, and their lines were written
-pub record LinesGoOn (trace given : Bool) (old new : NetworkHistory) (es : List Event) (i : ℕ) (a c : Stream) : Type 0 where
+pub record LinesGoOn (asked : Asked) (given : Bool) (old new : NetworkHistory) (es : List Event) (i : ℕ) (a c : Stream) : Type 0 where
   pub made : List Made
   pub text : List ℕ
-  pub goes : JournalBy trace given old.names 1 old.history.now made new.history.now text
+  pub goes : JournalBy asked given old.names 1 old.history.now made new.history.now text
   pub taken : take i es ≡ events_of made
   pub wrote : Wrote text a c
   pub names : new.names ≡ old.names
@@ -98,10 +153,13 @@ pub record IsNumbered (given : Bool) (es : List Event) (i : ℕ) (d : Event) (e 
   pub number : e.number ≡ i + 1
   pub given_is : e.given ≡ given
 
-pub numbered_at : (given : Bool) (es : List Event) (i n : ℕ) (d : Event) → i < length es → n ≡ i + 1 → IsNumbered given es i d (record { event = get_or es i d; number = n; given = given })
+abbrev pub numbered_event : Bool → List Event → ℕ → ℕ → Event → NumberedEvent
+numbered_event given es i n d = record { event = get_or es i d; number = n; given = given }
+
+pub numbered_at : (given : Bool) (es : List Event) (i n : ℕ) (d : Event) → i < length es → n ≡ i + 1 → IsNumbered given es i d (numbered_event given es i n d)
 numbered_at given es i n d inside number = record { inside = inside; event = refl; number = number; given_is = refl }
 
-module _ (trace given : Bool) (old now new : NetworkHistory) (es : List Event) (i : ℕ) (d : Event) (e : NumberedEvent) (a b c : Stream) (so_far : LinesGoOn trace given old now es i a b) (at : IsNumbered given es i d e) where
+module _ (asked : Asked) (given : Bool) (old now new : NetworkHistory) (es : List Event) (i : ℕ) (d : Event) (e : NumberedEvent) (a b c : Stream) (so_far : LinesGoOn asked given old now es i a b) (at : IsNumbered given es i d e) where
   abbrev made : List Made
   made = so_far.made
 
@@ -126,19 +184,24 @@ module _ (trace given : Bool) (old now new : NetworkHistory) (es : List Event) (
   events_split : (m : Made) → e.event ≡ m.0 → es ≡ events_of (made ++ m ∷ []) ++ drop (i + 1) es
   events_split m is = sym (take-append-drop (i + 1) es) ∙ ap (λ l. l ++ drop (i + 1) es) (taken_more m is)
 
-  -- it was made
-  pub line_here : (stuck : Bool) → stuck ≡ false → JournalsNext trace now new e b c stuck → LinesGoOn trace given old new es (i + 1) a c
-  line_here true none h = let f : true ≡ false = none in cc
-  line_here false none (rows, to, wrote) =
+  -- its line by the names, the number and the list that the journal has
+  line_as : (event : Event) (rows : List (Rule × ℕ)) (A B : State) (line : List ℕ) → IsEventLine asked e.given now.names e.number event rows A B line → IsEventLine asked given old.names (1 + length made) event rows A B line
+  line_as event rows A B line (x, are, is) =
       let names = so_far.names in
       let given_is = at.given_is in
       let n = number_from in
-      let line = event_line now.names e.given e.number e.event (rows_asked trace rows.rows) to.step.step.before to.step.step.after in
-      let is : line ≡ event_line old.names given (1 + length made) e.event (rows_asked trace rows.rows) to.step.step.before to.step.step.after = (λ j. event_line (names j) (given_is j) (n j) e.event (rows_asked trace rows.rows) to.step.step.before to.step.step.after) in
+      (x, are, is ∙ (λ j. event_line (names j) (given_is j) (n j) event (rows_asked asked.rules rows) x A B))
+
+  -- it was made
+  pub line_here : (stuck : Bool) → stuck ≡ false → JournalsNext asked now new e b c stuck → LinesGoOn asked given old new es (i + 1) a c
+  line_here true none h = let f : true ≡ false = none in cc
+  line_here false none (rows, to, line, own, wrote) =
+      let names = so_far.names in
+      let is = line_as e.event rows.rows to.step.step.before to.step.step.after line own in
       record {
         made = made ++ (e.event, rows.rows) ∷ [];
         text = text ++ line;
-        goes = lines_more trace given old.names 1 old.history.now made now.history.now text e.event rows.rows new.history.now line so_far.goes to.step is;
+        goes = lines_more asked given old.names 1 old.history.now made now.history.now text e.event rows.rows new.history.now line so_far.goes to.step is;
         taken = taken_more (e.event, rows.rows) refl;
         wrote = wrote_both a b c text line so_far.wrote wrote;
         names = to.names ∙ names;
@@ -153,11 +216,11 @@ module _ (trace given : Bool) (old now new : NetworkHistory) (es : List Event) (
       let event = at.event in
       (λ j. stuck_event_line (names j) (given_is j) (n j) now.history.now.states why (event j))
 
-  stuck_journal : (why : Cause) → IsStuckIn now.history.now e.event why → JournalOf trace given old.names old.history.now es now.history.now (Some (get_or es i d, why)) (text ++ stuck_event_line old.names given (length made + 1) now.history.now.states why (get_or es i d))
-  stuck_journal why stuck = journal_to trace given old.names old.history.now now.history.now es i d made text why so_far.goes so_far.taken at.inside (subst (λ (x : Event). IsStuckIn now.history.now x why) at.event stuck)
+  stuck_journal : (why : Cause) → IsStuckIn now.history.now e.event why → JournalOf asked given old.names old.history.now es now.history.now (Some (get_or es i d, why)) (text ++ stuck_event_line old.names given (length made + 1) now.history.now.states why (get_or es i d))
+  stuck_journal why stuck = journal_to asked given old.names old.history.now now.history.now es i d made text why so_far.goes so_far.taken at.inside (subst (λ (x : Event). IsStuckIn now.history.now x why) at.event stuck)
 
   -- it is stuck
-  pub line_stops : (stuck : Bool) → stuck ≡ true → JournalsNext trace now new e b c stuck → JournalsAll trace given old new es a c true
+  pub line_stops : (stuck : Bool) → stuck ≡ true → JournalsNext asked now new e b c stuck → JournalsAll asked given old new es a c true
   line_stops false some h = let f : false ≡ true = some in cc
   line_stops true some (same, why, stuck, wrote) =
       let network : new.history.now ≡ now.history.now = ap (λ (v : NetworkHistory). v.history.now) same in
@@ -165,25 +228,22 @@ module _ (trace given : Bool) (old now new : NetworkHistory) (es : List Event) (
       record {
         stuck = Some (get_or es i d, why);
         text = text ++ line;
-        journal = subst (λ (N : Network). JournalOf trace given old.names old.history.now es N (Some (get_or es i d, why)) (text ++ line)) (sym network) (stuck_journal why stuck);
+        journal = subst (λ (N : Network). JournalOf asked given old.names old.history.now es N (Some (get_or es i d, why)) (text ++ line)) (sym network) (stuck_journal why stuck);
         tells = refl;
         names = ap (λ (v : NetworkHistory). v.names) same ∙ so_far.names;
         written = subst (λ (t : List ℕ). Wrote (text ++ t) a c) (stuck_is why) (wrote_both a b c text _ so_far.wrote wrote);
       }
 
   -- its line was begun
-  pub line_begun : WrittenInPart (IsNextLine trace now.names now.history.now e) b c → WrittenInPart (AreLinesDue trace given old.names old.history.now es) a c
-  line_begun (line, inl (rows, to, step, is), part) =
-      let names = so_far.names in
-      let given_is = at.given_is in
-      let n = number_from in
-      let same : line ≡ event_line old.names given (1 + length made) e.event (rows_asked trace rows) step.step.before step.step.after = is ∙ (λ j. event_line (names j) (given_is j) (n j) e.event (rows_asked trace rows) step.step.before step.step.after) in (
+  pub line_begun : WrittenInPart (IsNextLine asked now.names now.history.now e) b c → WrittenInPart (AreLinesDue asked given old.names old.history.now es) a c
+  line_begun (line, inl (rows, to, step, own), part) =
+      let same = line_as e.event rows step.step.before step.step.after line own in (
         text ++ line,
         inl (record {
           made = made ++ (e.event, rows) ∷ [];
           more = drop (i + 1) es;
           last = to;
-          goes = lines_more trace given old.names 1 old.history.now made now.history.now text e.event rows to line so_far.goes step same;
+          goes = lines_more asked given old.names 1 old.history.now made now.history.now text e.event rows to line so_far.goes step same;
           are_first = events_split (e.event, rows) refl;
         }),
         part_after a b c text line so_far.wrote part,
@@ -195,20 +255,20 @@ module _ (trace given : Bool) (old now new : NetworkHistory) (es : List Event) (
         subst (λ (t : List ℕ). WrotePart (text ++ t) a c) (is ∙ stuck_is why) (part_after a b c text line so_far.wrote part),
       )
 
-module _ (trace given : Bool) (old now : NetworkHistory) (es : List Event) (i : ℕ) (a b : Stream) (so_far : LinesGoOn trace given old now es i a b) where
+module _ (asked : Asked) (given : Bool) (old now : NetworkHistory) (es : List Event) (i : ℕ) (a b : Stream) (so_far : LinesGoOn asked given old now es i a b) where
   -- where the network begins they are as they were
-  pub lines_begin : (last : NetworkHistory) → last ≡ record now { history = begun now.history.now } → LinesGoOn trace given old last es i a b
+  pub lines_begin : (last : NetworkHistory) → last ≡ record now { history = begun now.history.now } → LinesGoOn asked given old last es i a b
   lines_begin last is = record {
     made = so_far.made;
     text = so_far.text;
-    goes = subst (λ (n : Network). JournalBy trace given old.names 1 old.history.now so_far.made n so_far.text) (sym (ap (λ (k : NetworkHistory). k.history.now) is)) so_far.goes;
+    goes = subst (λ (n : Network). JournalBy asked given old.names 1 old.history.now so_far.made n so_far.text) (sym (ap (λ (k : NetworkHistory). k.history.now) is)) so_far.goes;
     taken = so_far.taken;
     wrote = so_far.wrote;
     names = ap (λ (k : NetworkHistory). k.names) is ∙ so_far.names;
   }
 
   -- all events were made
-  pub lines_end : length es ≡ i → JournalsAll trace given old now es a b false
+  pub lines_end : length es ≡ i → JournalsAll asked given old now es a b false
   lines_end all =
       let whole : es ≡ events_of so_far.made = sym (take-length es) ∙ (ap (λ k. take k es) all ∙ so_far.taken) in
       record {
@@ -221,9 +281,16 @@ module _ (trace given : Bool) (old now : NetworkHistory) (es : List Event) (i : 
       }
 
   -- those before a want of memory
-  pub lines_stand : (c : Stream) → c ≡ b → Written (JournalBegins trace given old.names old.history.now es) a c
-  lines_stand c same = (
+  pub lines_stand : (c : Stream) (d : Event) → i < length es → c ≡ b → Written (JournalStops asked given old.names old.history.now es) a c
+  lines_stand c d inside same = (
     so_far.text,
-    record { made = so_far.made; more = drop i es; last = now.history.now; goes = so_far.goes; are_first = sym (take-append-drop i es) ∙ ap (λ l. l ++ drop i es) so_far.taken },
+    record {
+      made = so_far.made;
+      next = get_or es i d;
+      more = drop (i + 1) es;
+      last = now.history.now;
+      goes = so_far.goes;
+      are_first = split_here es i so_far.made d inside so_far.taken;
+    },
     subst (λ (s : Stream). Wrote so_far.text a s) (sym same) so_far.wrote,
   )

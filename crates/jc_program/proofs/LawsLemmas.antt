@@ -15,7 +15,7 @@ use Rattle.jc_view.specs.Visible.{views_text}
 use Rattle.jc_program.specs.Runs.{Made, GoesBy, EndsAt, Stuck, Plays, events_of, events_text, stuck_line, status_of}
 use Rattle.jc_cli.specs.declared.order.View.{View}
 use Rattle.jc_cli.specs.declared.order.View.TheVariants.{Check, Print, Run, Document, Journal}
-use Rattle.jc_program.specs.Journals.{JournalBy, JournalOf, Journaled, stuck_part}
+use Rattle.jc_program.specs.Journals.{Asked, JournalBy, JournalOf, Journaled, stuck_part}
 use Rattle.jc_program.specs.Journals as J
 use Rattle.jc_program.specs.ViewText.{ReadsAs, RanThrough, ViewedThrough, IsGivenShown, Shows, IsRefused, RanOn}
 use Rattle.jc_program.proofs.JournalsLemmas.{lines_go, same_lines}
@@ -89,28 +89,28 @@ module _ (one_step : OneStepIn) (stuck_has_none : StuckInHasNone) (one_stuck : O
       ((λ i. first i ∷ more.0 i), more.1, more.2)
 
   -- a journal from one network has one end and one text
-  same_lines_of : (trace given : Bool) (names : List (List ℕ)) (network : Network) (events : List Event) (last other : Network) (stuck other_stuck : Option Stuck) (text more : List ℕ) → JournalOf trace given names network events last stuck text → JournalOf trace given names network events other other_stuck more → (last ≡ other) × (stuck ≡ other_stuck) × (text ≡ more)
-  same_lines_of trace given names network events last other stuck other_stuck text more a b =
-      let goes = lines_go trace given names 1 network a.made last a.lines a.goes in
-      let goes' = lines_go trace given names 1 network b.made other b.lines b.goes in
+  same_lines_of : (asked : Asked) (given : Bool) (names : List (List ℕ)) (network : Network) (events : List Event) (last other : Network) (stuck other_stuck : Option Stuck) (text more : List ℕ) → JournalOf asked given names network events last stuck text → JournalOf asked given names network events other other_stuck more → (last ≡ other) × (stuck ≡ other_stuck) × (text ≡ more)
+  same_lines_of asked given names network events last other stuck other_stuck text more a b =
+      let goes = lines_go asked given names 1 network a.made last a.lines a.goes in
+      let goes' = lines_go asked given names 1 network b.made other b.lines b.goes in
       let same = same_play events network last other a.made b.made stuck other_stuck goes a.ends goes' b.ends in
-      let here = subst (λ (made : List Made). JournalBy trace given names 1 network made last a.lines) same.0 a.goes in
-      let lines : a.lines ≡ b.lines = same_lines one_step trace given names 1 network b.made last other a.lines b.lines here b.goes in
+      let here = subst (λ (made : List Made). JournalBy asked given names 1 network made last a.lines) same.0 a.goes in
+      let lines : a.lines ≡ b.lines = same_lines one_step asked given names 1 network b.made last other a.lines b.lines here b.goes in
       (same.1, same.2, a.written ∙ ((λ i. lines i ++ stuck_part names given (length (same.0 i) + 1) (same.1 i) (same.2 i)) ∙ sym b.written))
 
-  same_journal : (trace : Bool) (s : Scenario) (shown other : List ℕ) (status other_status : ℕ) → Journaled trace s shown status → Journaled trace s other other_status → (shown ≡ other) × (status ≡ other_status)
-  same_journal trace s shown other status other_status (J.given_stuck last x a) (J.given_stuck end y b) =
-      ((same_lines_of trace true s.names (before_given s) s.given last end (Some x) (Some y) shown other a b).2, refl)
-  same_journal trace s shown other status other_status (J.given_stuck last x a) (J.ran start end stuck first text b c is) =
-      let none : Some x ≡ None = (same_lines_of trace true s.names (before_given s) s.given last start (Some x) None shown first a b).1 in
+  same_journal : (asked : Asked) (s : Scenario) (shown other : List ℕ) (status other_status : ℕ) → Journaled asked s shown status → Journaled asked s other other_status → (shown ≡ other) × (status ≡ other_status)
+  same_journal asked s shown other status other_status (J.given_stuck last x a) (J.given_stuck end y b) =
+      ((same_lines_of asked true s.names (before_given s) s.given last end (Some x) (Some y) shown other a b).2, refl)
+  same_journal asked s shown other status other_status (J.given_stuck last x a) (J.ran start end stuck first text b c is) =
+      let none : Some x ≡ None = (same_lines_of asked true s.names (before_given s) s.given last start (Some x) None shown first a b).1 in
       cc
-  same_journal trace s shown other status other_status (J.ran start end stuck first text b c is) (J.given_stuck last x a) =
-      let none : Some x ≡ None = (same_lines_of trace true s.names (before_given s) s.given last start (Some x) None other first a b).1 in
+  same_journal asked s shown other status other_status (J.ran start end stuck first text b c is) (J.given_stuck last x a) =
+      let none : Some x ≡ None = (same_lines_of asked true s.names (before_given s) s.given last start (Some x) None other first a b).1 in
       cc
-  same_journal trace s shown other status other_status (J.ran start last stuck first text a b is) (J.ran begun end others front more c d same_is) =
-      let given = same_lines_of trace true s.names (before_given s) s.given start begun None None first front a c in
-      let here = subst (λ (N : Network). JournalOf trace false s.names N s.schedule last stuck text) given.0 b in
-      let after = same_lines_of trace false s.names begun s.schedule last end stuck others text more here d in
+  same_journal asked s shown other status other_status (J.ran start last stuck first text a b is) (J.ran begun end others front more c d same_is) =
+      let given = same_lines_of asked true s.names (before_given s) s.given start begun None None first front a c in
+      let here = subst (λ (N : Network). JournalOf asked false s.names N s.schedule last stuck text) given.0 b in
+      let after = same_lines_of asked false s.names begun s.schedule last end stuck others text more here d in
       (is ∙ ((λ i. given.2 i ++ after.2 i) ∙ sym same_is), ap status_of after.1)
 
   module _ (one_start : OneStart) (one_given_stuck : OneGivenStuck) (led_or_stuck : LedOrStuck) where
@@ -145,7 +145,7 @@ module _ (one_step : OneStepIn) (stuck_has_none : StuckInHasNone) (one_stuck : O
       same_shown (Document n) s shown other status other_status (inl a) (inr b) = absurd (no_start led_or_stuck s a.start other other_status a.is_start b)
       same_shown (Document n) s shown other status other_status (inr a) (inl b) = absurd (no_start led_or_stuck s b.start shown status b.is_start a)
       same_shown (Document n) s shown other status other_status (inr a) (inr b) = same_given one_given_stuck s shown other status other_status a b
-      same_shown (Journal trace) s shown other status other_status a b = same_journal trace s shown other status other_status a b
+      same_shown (Journal trace effects) s shown other status other_status a b = same_journal (record { rules = trace; effects = effects }) s shown other status other_status a b
 
       pub one_run : (view : View) (bytes shown other : List ℕ) (status other_status : ℕ) (read other_read : Result Scenario ScenarioFault) → ReadsAs bytes read → ReadsAs bytes other_read → RanOn view read shown status → RanOn view other_read other other_status → (shown ≡ other) × (status ≡ other_status)
       one_run view bytes shown other status other_status (Ok s) (Ok t) r q a b =

@@ -19,7 +19,7 @@ use Rattle.jc_network.proofs.AfterLemmas.{after_one_more}
 use Rattle.jc_cli.specs.declared.order.View.{View}
 use Rattle.jc_cli.specs.declared.order.View.TheVariants.{Check, Print, Run, Document, Journal}
 use Rattle.jc_program.specs.Laws.{RunHasAText}
-use Rattle.jc_program.specs.Journals.{JournalOf, given_stuck, ran, stuck_part}
+use Rattle.jc_program.specs.Journals.{Asked, JournalOf, given_stuck, ran, stuck_part}
 use Rattle.jc_program.specs.ViewText.{IsGivenShown, Shows, IsRefused}
 use Rattle.jc_program.specs.Runs.{Made, GoesBy, EndsAt, Stuck, events_text, stuck_line, status_of}
 use Rattle.jc_program.specs.Texts.{counts_text}
@@ -98,24 +98,25 @@ module _ (step_or_stuck : StepOrStuck) (led_or_stuck : LedOrStuck) where
       )
 
   -- behind its given events
-  journal_after : (trace : Bool) (s : Scenario) (last : Network) (made : List Made) (stuck : Option Stuck) → GoesBy (before_given s) made last → EndsAt s.given made last stuck → (out : List ℕ) × (status : ℕ) × Shows (Journal trace) s out status
-  journal_after trace s last made (Some x) goes ends =
-      let lines = lines_of trace true s.names 1 (before_given s) made last goes in
+  journal_after : (asked : Asked) (s : Scenario) (last : Network) (made : List Made) (stuck : Option Stuck) → GoesBy (before_given s) made last → EndsAt s.given made last stuck → (out : List ℕ) × (status : ℕ) × Shows (Journal asked.rules asked.effects) s out status
+  journal_after asked s last made (Some x) goes ends =
+      let lines = lines_of s.scripts asked true s.names 1 (before_given s) made last ([], refl) goes in
       let text = lines.0 ++ stuck_part s.names true (length made + 1) last (Some x) in
       (text, 3, given_stuck last x (record { made = made; lines = lines.0; goes = lines.1; ends = ends; written = refl }))
-  journal_after trace s start made None goes ends =
-      let lines = lines_of trace true s.names 1 (before_given s) made start goes in
+  journal_after asked s start made None goes ends =
+      let lines = lines_of s.scripts asked true s.names 1 (before_given s) made start ([], refl) goes in
       let first = lines.0 ++ [] in
-      let given : JournalOf trace true s.names (before_given s) s.given start None first = record { made = made; lines = lines.0; goes = lines.1; ends = ends; written = refl } in
-      let p = played s s.given start (all_led trace true s.names (before_given s) s.given start first given) s.schedule in
-      let rest = lines_of trace false s.names 1 start p.made p.last p.goes in
+      let given : JournalOf asked true s.names (before_given s) s.given start None first = record { made = made; lines = lines.0; goes = lines.1; ends = ends; written = refl } in
+      let led = all_led asked true s.names (before_given s) s.given start first given in
+      let p = played s s.given start led s.schedule in
+      let rest = lines_of s.scripts asked false s.names 1 start p.made p.last (s.given, after_states (before_given s) s.given start led) p.goes in
       let text = rest.0 ++ stuck_part s.names false (length p.made + 1) p.last p.stuck in
       (first ++ text, status_of p.stuck, ran start p.last p.stuck first text given (record { made = p.made; lines = rest.0; goes = rest.1; ends = p.ends; written = refl }) refl)
 
-  journal_of : (trace : Bool) (s : Scenario) → (out : List ℕ) × (status : ℕ) × Shows (Journal trace) s out status
-  journal_of trace s =
+  journal_of : (asked : Asked) (s : Scenario) → (out : List ℕ) × (status : ℕ) × Shows (Journal asked.rules asked.effects) s out status
+  journal_of asked s =
       let p = played s [] (before_given s) refl s.given in
-      journal_after trace s p.last p.made p.stuck p.goes p.ends
+      journal_after asked s p.last p.made p.stuck p.goes p.ends
 
   -- where a given event is stuck
   given_of : (s : Scenario) (at : ℕ) (event : Event) (why : Cause) → IsGivenStuck (before_given s) s.given at event why → IsGivenShown s (given_text s.names at why event) 3
@@ -134,7 +135,7 @@ module _ (step_or_stuck : StepOrStuck) (led_or_stuck : LedOrStuck) where
         | inl (start, led) ↦ view_of n s start led
         | inr (at, event, why, stuck) ↦ (given_text s.names at why event, 3, inr (given_of s at event why stuck))
       ]
-  shown_of (Journal trace) s = journal_of trace s
+  shown_of (Journal trace effects) s = journal_of (record { rules = trace; effects = effects }) s
 
 refused_of : (bytes : List ℕ) (fault : ScenarioFault) → IsFault bytes fault → (out : List ℕ) × (status : ℕ) × IsRefused fault out status
 refused_of bytes fault is =

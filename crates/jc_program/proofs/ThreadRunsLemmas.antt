@@ -1,5 +1,5 @@
 -- About ThreadRuns: recordings, and runs on the bytes that were read. The functions of `threads` and of `weaving` use it.
-use Rattle.std.proofs.Common.{◌≡◌, ◌≢◌, ◌⊎◌, ℕ, ◌<◌, arith, inl, inr, List, [], take, Option, Some, None, Result, Ok, Err, IfOk, IfErr, string_bytes, refl, ap, sym, subst}
+use Rattle.std.proofs.Common.{◌≡◌, ◌≢◌, ◌⊎◌, ℕ, ◌+◌, arith, inl, inr, List, [], take, Option, Some, None, Result, Ok, Err, IfOk, IfErr, string_bytes, refl, ap, sym, subst}
 use Rattle.jc_io.specs.Streams.{IsPrefixUpTo}
 use Rattle.jc_parser.specs.declared.fault.ScenarioFault.{ScenarioFault}
 use Rattle.jc_parser.specs.declared.fault.ScenarioFault.TheVariants.{Memory as NoMemoryRead}
@@ -133,8 +133,8 @@ scenario_of_front n b v is e h = (h.0, reads_whole n b v (Ok h.0) is e h.1)
 -- what holds of a fault for each number of failures of the input holds for this one
 pub cause_of : (fault : WorkFault) (unread : Type 0) (input_old input_new out_old out_new : ℕ) → input_new ≡ input_old → ((n : ℕ) → IsCause fault ⊥ n n out_old out_new) → IsCause fault unread input_old input_new out_old out_new
 cause_of Read unread input_old input_new out_old out_new same h = absurd (none (h 0).0) where
-  none : (0 < 0) ⊎ ⊥ → ⊥
-  none (inl less) = omega (arith, less)
+  none : (0 ≡ 0 + 1) ⊎ ⊥ → ⊥
+  none (inl more) = omega (arith, more)
   none (inr e) = e
 cause_of Write unread input_old input_new out_old out_new same h = (same, (h 0).1)
 cause_of TooManyLines unread input_old input_new out_old out_new same h = (same, (h 0).1)

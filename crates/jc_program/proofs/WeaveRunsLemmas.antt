@@ -16,10 +16,10 @@ use Rattle.jc_dump.specs.Lines.{stuck_text}
 use Rattle.jc_scenario.specs.Canon.{canon}
 use Rattle.jc_scenario.specs.Laws.{OneScenario, ScenarioOrFault, OneFault}
 use Rattle.jc_scenario.specs.WellFormed.{Scenario, IsWellFormedScenario}
-use Rattle.jc_runner.specs.declared.worker.End.{End}
-use Rattle.jc_runner.specs.declared.worker.End.TheVariants as N
-use Rattle.jc_runner.specs.Laws.{with_schedule}
-use Rattle.jc_runner.proofs.LegalLemmas.{well_formed_with}
+use Rattle.jc_choice.specs.declared.end.End.{End}
+use Rattle.jc_choice.specs.declared.end.End.TheVariants as N
+use Rattle.jc_choice.specs.Laws.{with_schedule}
+use Rattle.jc_choice.proofs.LegalLemmas.{well_formed_with}
 use Rattle.jc_weave.specs.Laws.{OneSchedule, SchedulesLead, EachIsChosen}
 use Rattle.jc_weave.specs.Weaving.{end_of_left, end_of_state, end_or, end_in, counts_in, numbers_from, IsWoven}
 use Rattle.jc_weave.proofs.WeavingLemmas.{leads, within}

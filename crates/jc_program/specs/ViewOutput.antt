@@ -12,7 +12,7 @@ use Rattle.jc_view.specs.Visible.{views_text}
 use Rattle.jc_session.specs.Written.{Stream, Written, WrittenInPart}
 use Rattle.jc_program.specs.declared.fault.WorkFault.{WorkFault}
 use Rattle.jc_program.specs.declared.fault.WorkFault.TheVariants.{Read, Write, TooManyLines, NoThread, Memory}
-use Rattle.jc_program.specs.Journals.{AreFirstLines}
+use Rattle.jc_program.specs.Journals.{Asked, AreFirstLines, IsJournalUnfinished}
 use Rattle.jc_program.specs.Texts.{event_text}
 use Rattle.jc_program.specs.Runs.{Made, Stuck, GoesBy, Plays, events_of, events_text}
 use Rattle.jc_network.specs.Given.{IsStart}
@@ -50,8 +50,9 @@ abbrev pub IsViewDue : ℕ → Scenario → List ℕ → Type 0
 IsViewDue events s text = (status : ℕ) × Shows (Document events) s text status
 
 -- the journal of a scenario, whole or of its first events
-abbrev pub IsJournalDue : Bool → Scenario → List ℕ → Type 0
-IsJournalDue trace s text = AreFirstLines trace s text ⊎ ((status : ℕ) × Shows (Journal trace) s text status)
+abbrev pub IsJournalDue : Asked → Scenario → List ℕ → Type 0
+IsJournalDue asked s text =
+    AreFirstLines asked s text ⊎ ((status : ℕ) × Shows (Journal asked.rules asked.effects) s text status)
 
 -- the text of a view of a scenario, or of the first events of a run or a journal
 abbrev pub IsDueOf : View → Scenario → List ℕ → Type 0
@@ -59,7 +60,7 @@ IsDueOf Check s text = (status : ℕ) × Shows Check s text status
 IsDueOf Print s text = (status : ℕ) × Shows Print s text status
 IsDueOf (Run trace) s text = IsRunDue trace s text
 IsDueOf (Document events) s text = IsViewDue events s text
-IsDueOf (Journal trace) s text = IsJournalDue trace s text
+IsDueOf (Journal trace effects) s text = IsJournalDue (record { rules = trace; effects = effects }) s text
 
 -- the line of a fault
 abbrev pub IsDueAt : ScenarioFault → List ℕ → Type 0
@@ -104,13 +105,13 @@ IsViewUnfinished events s text =
     ⊎ ((start : Network) × IsStart s start
     × Unfinished false s.names start (take events s.schedule) (views_text s.names) text)
 
--- whole texts of a view of a scenario, without the last one; of a journal the lines of the first events
+-- whole texts of a view of a scenario, without the last one
 abbrev pub IsUnfinishedOf : View → Scenario → List ℕ → Type 0
 IsUnfinishedOf Check s text = text ≡ []
 IsUnfinishedOf Print s text = text ≡ []
 IsUnfinishedOf (Run trace) s text = IsRunUnfinished trace s text
 IsUnfinishedOf (Document events) s text = IsViewUnfinished events s text
-IsUnfinishedOf (Journal trace) s text = AreFirstLines trace s text
+IsUnfinishedOf (Journal trace effects) s text = IsJournalUnfinished (record { rules = trace; effects = effects }) s text
 
 -- Whole texts of a view of these bytes, without the last one; or nothing, where the bytes weren't read or have a fault.
 abbrev pub IsUnfinished : View → List ℕ → List ℕ → Type 0

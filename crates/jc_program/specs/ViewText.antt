@@ -72,7 +72,7 @@ Shows Check s out status = (out ≡ counts_text s) × (status ≡ 0)
 Shows Print s out status = (out ≡ canon s) × (status ≡ 0)
 Shows (Run trace) s out status = RanThrough trace s out status ⊎ IsGivenShown s out status
 Shows (Document events) s out status = ViewedThrough events s out status ⊎ IsGivenShown s out status
-Shows (Journal trace) s out status = Journaled trace s out status
+Shows (Journal trace effects) s out status = Journaled (record { rules = trace; effects = effects }) s out status
 
 abbrev pub RanOn : View → Result Scenario ScenarioFault → List ℕ → ℕ → Type 0
 RanOn view (Ok s) out status = Shows view s out status

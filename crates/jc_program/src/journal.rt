@@ -1,27 +1,39 @@
 //! Executes the events of a scenario, the given ones first, and writes the line of each before the next. `journal` and
 //! its faults are made of these.
 
-ghost use Rattle.std.specs.Prelude.{◌≡◌, ◌<◌, ◌≤◌, [], length, IfOk, OnOk, IsErrOf, All};
+ghost use Rattle.std.specs.Prelude.{◌≡◌, ◌<◌, ◌≤◌, [], ℕ, List, length, is_some, IfSome, IfOk, OnOk, IfErr, IsErrOf, All};
 ghost use Rattle.jc_rules.specs.declared.limits.TheConstants.{MAX_EVENTS};
+ghost use Rattle.jc_rules.specs.declared.rule.Rule.{Rule as AnyRule};
+ghost use Rattle.jc_rules.specs.Step.{StepIn};
 ghost use Rattle.jc_printer.specs.Canon.{AreNamed};
 ghost use Rattle.jc_scenario.specs.WellFormed.{IsWellFormedScenario};
 ghost use Rattle.jc_scenario.specs.Views.{scenario_view};
 ghost use Rattle.jc_dump.specs.Lines.{IsNamedStuck};
+ghost use Rattle.jc_network.specs.Given.{before_given};
+ghost use Rattle.jc_journal.specs.Before.{IsNoted};
 ghost use Rattle.jc_journal.specs.Parts.{rows_of};
 ghost use Rattle.jc_cli.specs.declared.order.View.TheVariants as V;
 ghost use Rattle.jc_session.specs.Written.{sink, Wrote, WrotePart, Written, WrittenInPart};
-ghost use Rattle.jc_program.specs.JournalResult.{OfEventLine, OfStuckLine, JournalsNext, IsNextLine, JournalsAll, AreLinesDue};
-ghost use Rattle.jc_program.specs.Journals.{rows_asked, JournalBegins, AreFirstLines};
+ghost use Rattle.jc_program.specs.JournalResult.{asked_by, IsBehind, CatchesUp, IsLineOf, OfStuckLine, JournalsNext, IsNextLine, JournalsAll, AreLinesDue};
+ghost use Rattle.jc_program.specs.Journals.{rows_asked, JournalStops, IsJournalUnfinished};
 ghost use Rattle.jc_program.specs.ViewOutput.{IsJournalDue};
 ghost use Rattle.jc_program.specs.ViewText.{Shows};
 
 use crate::run::{RunFault, send_bytes};
 use jc_io::Sink;
-use jc_journal::{Before, NumberedEvent, event_line, stuck_line};
+use jc_journal::{Before, NumberedEvent, event_effects, event_line, stuck_line};
 use jc_network::{Net, StepFault, Stuck};
 use jc_rules::{Event, Trace};
-use jc_scenario::Scenario;
-use std::alloc::Global;
+use jc_scenario::{Scenario, copy_names, copy_scripts};
+use std::alloc::{AllocError, Global};
+
+/// A network, and another one behind it where effects are asked for, which makes each event once the event's line is
+/// there.
+#[derive(Drop)]
+struct Networks {
+    net: Net,
+    behind: Option<Net>,
+}
 
 /// The rules of an event, where they are asked for.
 fn rows_asked(rules: &Trace, trace: bool) -> Option<&Trace>
@@ -30,25 +42,42 @@ fn rows_asked(rules: &Trace, trace: bool) -> Option<&Trace>
     if trace { Some(rules) } else { None }
 }
 
-/// Writes the line of an event that led to the network. Without memory nothing is written.
-fn send_event<K: Sink>(
+/// The line of an event that led to the network, with what it changed where there is a network behind.
+fn made_line(
     alloc: Global,
-    net: &Net,
+    networks: &Networks,
     numbered: &NumberedEvent,
     before: &Before,
     rules: Option<&Trace>,
-    out: &mut K,
-) -> Result<(), RunFault>
-    requires { AreNamed numbered.now.event (length net.now.names) }
-    ensures ok { OnOk result (OfEventLine net.now numbered.now before.now (rows_of rules.entry)
-        (λ line. Wrote line (sink K.Sink out.old) (sink K.Sink out.new))) }
-    ensures memory { IsErrOf result RunFault.Memory → out.new ≡ out.old }
-    ensures write { IsErrOf result RunFault.Write
-        → OfEventLine net.now numbered.now before.now (rows_of rules.entry)
-        (λ line. WrotePart line (sink K.Sink out.old) (sink K.Sink out.new)) }
+) -> Result<Vec<u8>, AllocError>
+    requires named { AreNamed numbered.now.event (length networks.now.net.names) }
+    requires made { IfSome networks.now.behind (λ c. (rows : List (AnyRule × ℕ))
+        × StepIn c.history.now numbered.now.event networks.now.net.history.now rows) }
+    requires noted { IfSome networks.now.behind (λ c. IsNoted numbered.now.event c.history.now.states before.now) }
+    ensures { IfOk result (λ line. IsLineOf networks.now.net networks.now.behind numbered.now before.now
+        (rows_of rules.entry) line.items) }
 {
-    let line = event_line(alloc, net, numbered, before, rules)?;
-    send_bytes(out, line.as_slice())
+    let net = &networks.net;
+    let effects = match &networks.behind {
+        Some(old) => event_effects(alloc, old, net, &numbered.event, before)?,
+        None => None,
+    };
+    event_line(alloc, net, numbered, before, rules, effects.as_ref())
+}
+
+/// Executes the event in the network behind, if there is one. Nothing is kept to go back with.
+fn catch_up(behind: &mut Option<Net>, event: &Event) -> Result<(), RunFault>
+    requires { IfSome behind.old (λ c. c.history.earlier ≡ []) }
+    ensures ok { OnOk result (CatchesUp event.now behind.old behind.new) }
+    ensures err { IfErr result (λ fault. fault ≡ RunFault.Memory) }
+{
+    if let Some(net) = behind {
+        if net.step(event).is_err() {
+            return Err(RunFault::Memory);
+        }
+        net.begin();
+    }
+    Ok(())
 }
 
 /// Writes the line of an event that is stuck in the network. Without memory nothing is written.
@@ -74,29 +103,34 @@ fn send_stuck<K: Sink>(
 /// Without memory nothing is written.
 fn journal_next<K: Sink>(
     alloc: Global,
-    net: &mut Net,
+    networks: &mut Networks,
     numbered: &NumberedEvent,
     trace: bool,
     out: &mut K,
 ) -> Result<bool, RunFault>
-    requires room { length net.old.history.earlier < MAX_EVENTS }
-    requires named { AreNamed numbered.now.event (length net.old.names) }
-    ensures ok { IfOk result
-        (JournalsNext trace net.old net.new numbered.now (sink K.Sink out.old) (sink K.Sink out.new)) }
+    requires room { length networks.old.net.history.earlier < MAX_EVENTS }
+    requires named { AreNamed numbered.now.event (length networks.old.net.names) }
+    requires behind { IsBehind networks.old.behind networks.old.net.history.now }
+    ensures ok { IfOk result (JournalsNext (asked_by trace networks.old.behind) networks.old.net networks.new.net
+        numbered.now (sink K.Sink out.old) (sink K.Sink out.new)) }
+    ensures behind { OnOk result (IsBehind networks.new.behind networks.new.net.history.now) }
+    ensures asked { OnOk result (is_some networks.new.behind ≡ is_some networks.old.behind) }
     ensures memory { IsErrOf result RunFault.Memory → out.new ≡ out.old }
     ensures write { IsErrOf result RunFault.Write
-        → WrittenInPart (IsNextLine trace net.old.names net.old.history.now numbered.now)
-        (sink K.Sink out.old) (sink K.Sink out.new) }
+        → WrittenInPart (IsNextLine (asked_by trace networks.old.behind) networks.old.net.names
+        networks.old.net.history.now numbered.now) (sink K.Sink out.old) (sink K.Sink out.new) }
 {
-    let before = Before::of(alloc, net, &numbered.event)?;
-    match net.step(&numbered.event) {
+    let before = Before::of(alloc, &networks.net, &numbered.event)?;
+    match networks.net.step(&numbered.event) {
         Ok(rules) => {
             let asked = rows_asked(&rules, trace);
-            send_event(alloc, net, numbered, &before, asked, out)?;
+            let line = made_line(alloc, networks, numbered, &before, asked)?;
+            catch_up(&mut networks.behind, &numbered.event)?;
+            send_bytes(out, line.as_slice())?;
             Ok(false)
         }
         Err(StepFault::Stuck(stuck)) => {
-            send_stuck(alloc, net, numbered, &stuck, out)?;
+            send_stuck(alloc, &networks.net, numbered, &stuck, out)?;
             Ok(true)
         }
         Err(_) => Err(RunFault::Memory),
@@ -107,23 +141,26 @@ fn journal_next<K: Sink>(
 /// whether there is one.
 fn journal_events<K: Sink>(
     alloc: Global,
-    net: &mut Net,
+    networks: &mut Networks,
     events: &[Event],
     given: bool,
     trace: bool,
     out: &mut K,
 ) -> Result<bool, RunFault>
-    requires new { net.old.history.earlier ≡ [] }
+    requires new { networks.old.net.history.earlier ≡ [] }
     requires short { length events.now ≤ MAX_EVENTS }
-    requires named { All (λ e. AreNamed e (length net.old.names)) events.now }
-    ensures ok { IfOk result
-        (JournalsAll trace given net.old net.new events.now (sink K.Sink out.old) (sink K.Sink out.new)) }
+    requires named { All (λ e. AreNamed e (length networks.old.net.names)) events.now }
+    requires behind { IsBehind networks.old.behind networks.old.net.history.now }
+    ensures ok { IfOk result (JournalsAll (asked_by trace networks.old.behind) given networks.old.net networks.new.net
+        events.now (sink K.Sink out.old) (sink K.Sink out.new)) }
+    ensures behind { OnOk result (IsBehind networks.new.behind networks.new.net.history.now) }
+    ensures asked { OnOk result (is_some networks.new.behind ≡ is_some networks.old.behind) }
     ensures memory { IsErrOf result RunFault.Memory
-        → Written (JournalBegins trace given net.old.names net.old.history.now events.now)
-        (sink K.Sink out.old) (sink K.Sink out.new) }
+        → Written (JournalStops (asked_by trace networks.old.behind) given networks.old.net.names
+        networks.old.net.history.now events.now) (sink K.Sink out.old) (sink K.Sink out.new) }
     ensures write { IsErrOf result RunFault.Write
-        → WrittenInPart (AreLinesDue trace given net.old.names net.old.history.now events.now)
-        (sink K.Sink out.old) (sink K.Sink out.new) }
+        → WrittenInPart (AreLinesDue (asked_by trace networks.old.behind) given networks.old.net.names
+        networks.old.net.history.now events.now) (sink K.Sink out.old) (sink K.Sink out.new) }
 {
     let mut number = 0u64;
     for event in events {
@@ -133,14 +170,33 @@ fn journal_events<K: Sink>(
             number,
             given,
         };
-        let is_stuck = journal_next(alloc, net, &numbered, trace, out)?;
+        let is_stuck = journal_next(alloc, networks, &numbered, trace, out)?;
         if is_stuck {
             return Ok(true);
         }
         // Nothing is kept to go back with.
-        net.begin();
+        networks.net.begin();
     }
     Ok(false)
+}
+
+/// The network that stays one event behind, where effects are asked for.
+fn network_behind(
+    alloc: Global,
+    scenario: &Scenario,
+    effects: bool,
+) -> Result<Option<Net>, AllocError>
+    requires { IsWellFormedScenario (scenario_view scenario.now) }
+    ensures behind { IfOk result (λ old. IsBehind old (before_given (scenario_view scenario.now))) }
+    ensures asked { IfOk result (λ old. is_some old ≡ effects) }
+{
+    if !effects {
+        return Ok(None);
+    }
+    let names = copy_names(alloc, &scenario.names)?;
+    let scripts = copy_scripts(alloc, &scenario.scripts)?;
+    let net = Net::before_given(alloc, scenario.version, names, scripts)?;
+    Ok(Some(net))
 }
 
 /// Executes a scenario: writes the text of `journal`, and returns its status.
@@ -148,16 +204,21 @@ pub fn journal_through<K: Sink>(
     alloc: Global,
     scenario: Scenario,
     trace: bool,
+    effects: bool,
     out: &mut K,
 ) -> Result<u8, RunFault>
     requires { IsWellFormedScenario (scenario_view scenario) }
-    ensures ok { IfOk result (λ status. Written (λ text. Shows (V.Journal trace) (scenario_view scenario) text status)
+    ensures ok { IfOk result (λ status. Written
+        (λ text. Shows (V.Journal trace effects) (scenario_view scenario) text status)
         (sink K.Sink out.old) (sink K.Sink out.new)) }
-    ensures memory { IsErrOf result RunFault.Memory → Written (AreFirstLines trace (scenario_view scenario))
+    ensures memory { IsErrOf result RunFault.Memory
+        → Written (IsJournalUnfinished (record { rules = trace; effects = effects }) (scenario_view scenario))
         (sink K.Sink out.old) (sink K.Sink out.new) }
-    ensures write { IsErrOf result RunFault.Write → WrittenInPart (IsJournalDue trace (scenario_view scenario))
+    ensures write { IsErrOf result RunFault.Write
+        → WrittenInPart (IsJournalDue (record { rules = trace; effects = effects }) (scenario_view scenario))
         (sink K.Sink out.old) (sink K.Sink out.new) }
 {
+    let behind = network_behind(alloc, &scenario, effects)?;
     let Scenario {
         version,
         names,
@@ -165,13 +226,14 @@ pub fn journal_through<K: Sink>(
         given,
         schedule,
     } = scenario;
-    let mut net = Net::before_given(alloc, version, names, scripts)?;
-    let given_is_stuck = journal_events(alloc, &mut net, &given, true, trace, out)?;
+    let net = Net::before_given(alloc, version, names, scripts)?;
+    let mut networks = Networks { net, behind };
+    let given_is_stuck = journal_events(alloc, &mut networks, &given, true, trace, out)?;
     if given_is_stuck {
         return Ok(3);
     }
-    net.begin();
-    let is_stuck = journal_events(alloc, &mut net, &schedule, false, trace, out)?;
+    networks.net.begin();
+    let is_stuck = journal_events(alloc, &mut networks, &schedule, false, trace, out)?;
     if is_stuck {
         return Ok(3);
     }

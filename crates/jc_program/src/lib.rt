@@ -4,6 +4,7 @@
 mod alone;
 mod fault;
 mod files;
+mod gates;
 mod journal;
 pub mod laws;
 mod lines;

@@ -96,6 +96,13 @@ const RUNS: &[(&[&str], &str, &str, &str, u8)] = &[
         "a made 0 stuck 27 NoMap a.exec\n",
         3,
     ),
+    (
+        &["threads", "-"],
+        "jsoncrdt 2 replica a { yield } given { a.send; a.exec }",
+        "refused 44 GivenStuck at 2\nstuck 31 AtYield a.exec\n",
+        "",
+        3,
+    ),
     (&["threads", "-"], "", "refused 14 NoHeader at 0\n", "", 1),
     (&["threads", "/no/such/file"], ONE, "", "read failed\n", 4),
     (

@@ -1,5 +1,5 @@
-//! Tests of `jc_rules`, and of the sources and sinks of `jc_fakes`: each call where memory is ample, readings and
-//! writings whole and cut short, and what is shown by name and number.
+//! Tests of `jc_rules`, of outputs, and of the sources and sinks of `jc_fakes`: each call where memory is ample, readings
+//! and writings whole and cut short, and what is shown by name and number.
 #![tactic(auto)]
 
 #[cfg(test)]
@@ -10,6 +10,8 @@ mod fakes;
 mod id_sets;
 #[cfg(test)]
 mod io;
+#[cfg(test)]
+mod outputs;
 #[cfg(test)]
 mod shown;
 #[cfg(test)]

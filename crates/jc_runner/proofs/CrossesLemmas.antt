@@ -35,7 +35,7 @@ use Rattle.jc_runner.specs.contracts.recorded.Beginning.{the_row as beginning_ro
 use Rattle.jc_runner.specs.contracts.recorded.Recorded.{the_row as recorded_row}
 use Rattle.jc_runner.specs.contracts.recorded.RecordedKept.TheImpl.{ghosts}
 use Rattle.jc_runner.specs.contracts.worker.Worked.{the_row as worked_row}
-use Rattle.jc_runner.proofs.worker.End.TheSendSync as end
+use Rattle.jc_choice.proofs.end.End.TheSendSync as end
 
 pub ruleset parts = (id_set.the_send, event.the_send, event.the_field_send, op.the_send, text.the_send, value.the_send, value.the_field_send, version.the_send, version.the_field_send, bound.the_send, bound.the_field_send, received.the_send, recorded_step.the_send, arena.the_send)
 

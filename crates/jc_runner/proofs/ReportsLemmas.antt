@@ -1,5 +1,5 @@
 -- About specs/Reports: what the passes know of the history that the closed bench returns.
-use Rattle.std.proofs.Common.{rules, arith, ◌≡◌, ℕ, zero, suc, ◌+◌, ◌≤◌, ◌<◌, List, [], ◌∷◌, ◌++◌, refl, sym, ◌∙◌, ap, subst, Bool, true, false, nat_eq, length, length-append, append-nil, sum, map, get_or, inl, inr, slice_get, slice_set}
+use Rattle.std.proofs.Common.{rules, arith, ◌≡◌, ℕ, zero, suc, ◌+◌, ◌≤◌, ◌<◌, List, [], ◌∷◌, ◌++◌, refl, sym, ◌∙◌, ap, subst, Bool, true, false, nat_eq, length, length-append, append-nil, sum, map, get_or, inl, inr, slice_get}
 use Rattle.std.specs.Prelude.{All}
 use Rattle.std.specs.List.{range_with_len}
 use Rattle.std.proofs.lemmas.List.Elements.{All-nil, All-cons, All-head, All-tail, All-get_or}
@@ -7,23 +7,21 @@ use mathlib.Core.Logic.{dite}
 use native.Mathlib.Decide.{ℕ_discrete}
 use mathlib.Core.List.{IsPrefix}
 use Rattle.jc_rules.specs.declared.operation.Event.{Event}
-use Rattle.jc_rules.specs.State.{State}
-use Rattle.jc_rules.specs.Step.{After, Network, replica_of}
+use Rattle.jc_rules.specs.Step.{Network, replica_of}
 use Rattle.jc_rules.proofs.VersionLemmas.{after_states}
 use Rattle.jc_scenario.specs.WellFormed.{Scenario, IsWellFormedScenario}
 use Rattle.jc_scenario.specs.Views.{scenario_view}
-use Rattle.jc_runner.specs.declared.worker.End.{End}
-use Rattle.jc_runner.specs.declared.worker.End.TheVariants as N
-use Rattle.jc_runner.specs.Legal.{IsLegal, own_events}
+use Rattle.jc_choice.specs.declared.end.End.{End}
+use Rattle.jc_choice.specs.declared.end.End.TheVariants as N
+use Rattle.jc_choice.specs.Legal.{IsLegal, own_events}
 use Rattle.jc_runner.specs.Benches.{bench_start}
 use Rattle.jc_runner.specs.WorkerResult.{IsFinishedAfter, ChoosesAfter, EndsWith, HaveWorked}
 use Rattle.std.proofs.lemmas.List.{get_or-map, length-map}
 use Rattle.std.proofs.lemmas.List.Sums.{sum_by-cons}
 use Rattle.std.proofs.lemmas.Option.{get_or_from_slice_get}
-use Rattle.jc_runner.proofs.LegalGrowsLemmas.{one_legal, legal_both, own_both, nothing_more}
-use Rattle.jc_runner.proofs.ChosenNamesLemmas.{stuck_named}
-use Rattle.jc_runner.proofs.LegalLemmas.{well_formed_with}
-use Rattle.jc_runner.proofs.WorkerResultLemmas.{still_chosen}
+use Rattle.jc_choice.proofs.LegalGrowsLemmas.{one_legal, legal_both, own_both, nothing_more, untouched}
+use Rattle.jc_choice.proofs.LegalLemmas.{well_formed_with}
+use Rattle.jc_runner.proofs.WorkerResultLemmas.{still_chosen, stuck_named}
 use Rattle.jc_lock.specs.Shows.{pass_number, pass_seen, pass_mine}
 use Rattle.jc_runner.specs.declared.bench.Bench.{Bench}
 use Rattle.jc_runner.specs.declared.worker.Worked.{Worked}
@@ -31,29 +29,11 @@ use Rattle.jc_runner.specs.declared.run.Report.{Report}
 use Rattle.jc_runner.specs.Recording.{IsRecorded}
 use Rattle.jc_runner.specs.Reports.{IsFinishedIn, HasEnd, IsReport}
 
-set_elsewhere : {X : Type 0} → (xs : List X) (k p : ℕ) (x : X) → (k ≡ p → ⊥) → slice_get (slice_set xs k x) p ≡ slice_get xs p
-set_elsewhere [] k p x other = refl
-set_elsewhere (y ∷ ys) zero zero x other = absurd (other refl)
-set_elsewhere (y ∷ ys) zero (suc p) x other = refl
-set_elsewhere (y ∷ ys) (suc k) zero x other = refl
-set_elsewhere (y ∷ ys) (suc k) (suc p) x other = set_elsewhere ys k p x (λ e. other (ap suc e))
-
 is_same : (a b : ℕ) → a ≡ b → nat_eq a b ≡ true
 is_same a b e = search (rules, e)
 
 is_other : (a b : ℕ) → (a ≡ b → ⊥) → nat_eq a b ≡ false
 is_other a b e = search (rules, e)
-
--- events of others leave a replica as it was
-pub untouched : (p : ℕ) (K : List State) (es : List Event) (M : List State) → After K es M → own_events es p ≡ [] → slice_get M p ≡ slice_get K p
-untouched p K [] M after none = ap (λ l. slice_get l p) (sym after)
-untouched p K (e ∷ es) M after none = go (nat_eq (replica_of e) p) refl (λ h. untouched p after.0 es M after.3 h)
-  where
-    go : (t : Bool) → nat_eq (replica_of e) p ≡ t → (own_events es p ≡ [] → slice_get M p ≡ slice_get after.0 p) → slice_get M p ≡ slice_get K p
-    go true same more = absurd (search (rules, none, same))
-    go false other more =
-        let apart : replica_of e ≡ p → ⊥ = λ is. search (rules, other, is) in
-        more (search (rules, none, other)) ∙ (ap (λ l. slice_get l p) after.2.is_new ∙ set_elsewhere K (replica_of e) p after.2.after apart)
 
 pub finished_in : (s : Scenario) (p : ℕ) (seen schedule : List Event) (M : Network) → IsFinishedAfter s p seen → IsPrefix seen schedule → own_events schedule p ≡ own_events seen p → IsLegal schedule s M → IsFinishedIn M p
 finished_in s p seen schedule M finished begins same legal =
@@ -205,6 +185,7 @@ reported_at bench limit r ws well kept same long worked made ends told makers =
       legal = legal;
       well_formed = well_formed_with (scenario_view r.start) r.schedule.items r.net.history.now (subst IsWellFormedScenario (sym same) well) kept.legal kept.small;
       named = kept.named ∙ ap (λ (t : Scenario). t.names) same;
+      begun = kept.begun;
       small = kept.small;
       each_made = ap length made ∙ (length-map ws (λ w. w.made) ∙ long);
       each_end = ap length ends ∙ (length-map ws (λ w. w.end) ∙ long);

@@ -1,56 +1,41 @@
 -- About specs/WorkerResult: what a replica's thread knows between two turns.
 use Rattle.std.proofs.Common.{arith, ◌≡◌, ℕ, ◌<◌, ◌+◌, List, [], ◌∷◌, ◌++◌, sym, ◌∙◌, ap, subst, length, Option, Some, None, inr}
-use Rattle.std.proofs.lemmas.List.{length-map}
 use mathlib.Core.List.{IsPrefix}
 use Rattle.jc_rules.specs.declared.operation.Event.{Event}
-use Rattle.jc_rules.specs.State.{start}
-use Rattle.jc_rules.specs.Step.{Network, replica_of}
-use Rattle.jc_lock.specs.Knowledge.{own}
-use Rattle.jc_scenario.specs.WellFormed.{Scenario}
+use Rattle.jc_rules.specs.Step.{Network}
+use Rattle.jc_printer.specs.Canon.{AreNamed}
+use Rattle.jc_scenario.specs.WellFormed.{Scenario, IsWellFormedScenario}
 use Rattle.jc_network.specs.declared.fault.Stuck.{Stuck}
 use Rattle.jc_network.specs.NetworkHistory.{NetworkHistory}
-use Rattle.jc_runner.specs.declared.phase.Phase.{Phase}
+use Rattle.jc_choice.specs.declared.phase.Phase.{Phase}
 use Rattle.std.proofs.lemmas.Option.{same_Some}
 use Rattle.jc_runner.specs.Recording.{Recording, recording, IsRecorded}
 use Rattle.jc_network.specs.Laws.{starts}
 use Rattle.jc_network.specs.Steps.{IsStuckFor}
-use Rattle.jc_network.proofs.AfterLemmas.{after_count}
-use Rattle.jc_runner.specs.Phases.{last_event_of, phase_after}
-use Rattle.jc_runner.specs.Chosen.{choice, event_in}
-use Rattle.jc_runner.specs.Legal.{IsLegal, own_events, IsChosenAfter, AllChosen}
+use Rattle.jc_network.specs.RunInvariant.{IsWell}
+use Rattle.jc_network.proofs.RunInvariantStartLemmas.{start_well, after_well}
+use Rattle.jc_choice.specs.Phases.{last_event_of, phase_after}
+use Rattle.jc_choice.specs.Chosen.{choice, event_in}
+use Rattle.jc_choice.specs.Legal.{IsLegal, own_events, AllChosen}
 use Rattle.jc_lock.specs.Shows.{pass_number, pass_left, pass_origin, pass_seen, pass_mine}
 use Rattle.jc_runner.specs.Benches.{IsPassAt, bench_start}
 use Rattle.jc_runner.specs.declared.bench.Bench.{Bench}
 use Rattle.jc_runner.specs.declared.bench.StepAnswer.{StepAnswer}
 use Rattle.jc_runner.specs.declared.bench.StepAnswer.TheVariants as A
-use Rattle.jc_runner.specs.declared.worker.End.{End}
-use Rattle.jc_runner.specs.declared.worker.End.TheVariants as Ends
+use Rattle.jc_choice.specs.declared.end.End.{End}
+use Rattle.jc_choice.specs.declared.end.End.TheVariants as Ends
 use Rattle.jc_runner.specs.declared.worker.Worked.{Worked}
 use Rattle.jc_runner.specs.Answers.{IsStepAnswered, IsSpent, seen_after}
 use Rattle.jc_runner.specs.WorkerResult.{IsFinishedAfter, IsStuckAfter, ChoosesAfter, EndsWith, AreTakes, IsWorkerResult, end_of}
-use Rattle.jc_runner.proofs.LegalGrowsLemmas.{legal_states, one_legal, chosen_longer, last_more}
-use Rattle.jc_runner.proofs.ChosenLemmas.{choice_is, none_chosen}
-
--- the network in hand has the scenario's replicas
-pub as_many : (s : Scenario) (history : List Event) (N : Network) → IsLegal history s N → length N.states ≡ length s.scripts
-as_many s history N legal = after_count (starts s.scripts) (s.given ++ history) N.states (legal_states s history N legal) ∙ length-map s.scripts start
+use Rattle.jc_choice.proofs.LegalGrowsLemmas.{legal_states, one_legal, chosen_longer, last_more}
+use Rattle.jc_choice.proofs.ChosenLemmas.{choice_is, none_chosen}
+use Rattle.jc_choice.proofs.ChosenNowLemmas.{as_many}
+use Rattle.jc_choice.proofs.ChosenNamesLemmas.{chosen_named, event_named}
 
 -- what is known of the own events holds in the longer history too
 pub still_chosen : (s : Scenario) (p : ℕ) (seen longer mine : List Event) → IsPrefix seen longer → own_events seen p ≡ mine → own_events longer p ≡ mine → AllChosen s p seen → AllChosen s p longer
 still_chosen s p seen longer mine begins before after all =
     subst (AllChosen s p) begins.1 (chosen_longer s p seen begins.0 (ap (λ l. own_events l p) begins.1 ∙ (after ∙ sym before)) all)
-
--- the event in hand is the chosen one
-pub chosen_now : (s : Scenario) (p : ℕ) (history mine : List Event) (N : Network) (phase next : Phase) (e : Event)
-    → IsLegal history s N → own_events history p ≡ mine → phase ≡ phase_after (last_event_of mine) → choice N.states p phase ≡ Some (e, next) → IsChosenAfter s history e
-chosen_now s p history mine N phase next e legal own at is =
-    let of : replica_of e ≡ p = (choice_is N.states p phase e next is).0 in
-    let same : phase_after (last_event_of (own_events history (replica_of e))) ≡ phase = ap (λ q. phase_after (last_event_of (own_events history q))) of ∙ (ap (λ l. phase_after (last_event_of l)) own ∙ sym at) in
-    record {
-      network = N;
-      legal = legal;
-      is_chosen = (λ i. event_in (choice N.states (of i) (same i))) ∙ ap event_in is;
-    }
 
 pub is_next : (p : ℕ) (mine : List Event) (N : Network) (phase next : Phase) (e : Event) → choice N.states p phase ≡ Some (e, next) → next ≡ phase_after (last_event_of (mine ++ e ∷ []))
 is_next p mine N phase next e is = (choice_is N.states p phase e next is).1 ∙ ap phase_after (sym (last_more mine e))
@@ -80,6 +65,15 @@ is_stuck_after s p history mine N phase next e M stuck legal own at is other is_
       is_chosen = (λ i. event_in (choice N.states p (phase_after (last_event_of (own i))))) ∙ (ap (λ ph. event_in (choice N.states p ph)) (sym at) ∙ ap event_in is);
       is_stuck = subst (λ K. IsStuckFor K e stuck) same is_stuck;
     }
+
+-- a stuck event that a replica chose names replicas of the scenario
+pub stuck_named : (s : Scenario) (p : ℕ) (history : List Event) (stuck : Stuck) → IsWellFormedScenario s → p < length s.scripts → (t : IsStuckAfter s p history stuck) → AreNamed t.event (length s.names)
+stuck_named s p history stuck well low t =
+    let count : length t.network.states ≡ length s.scripts = as_many s history t.network t.legal in
+    let kept : IsWell t.network.states = after_well (starts s.scripts) (s.given ++ history) t.network.states (start_well s.scripts) (legal_states s history t.network t.legal) in
+    let phase = phase_after (last_event_of (own_events history p)) in
+    let named = chosen_named t.network.states p phase kept (omega (arith, low, count)) in
+    subst (AreNamed t.event) (count ∙ well.each) (event_named (length t.network.states) (choice t.network.states p phase) t.event named t.is_chosen)
 
 -- a turn in which nothing was made ends the work
 pub ended : (bench : Bench) (p limit : ℕ) (w : Worked) (history mine : List Event)

@@ -9,7 +9,7 @@ use Rattle.jc_network.specs.Steps.{IsStuckFor}
 use Rattle.jc_scenario.specs.WellFormed.{Scenario}
 use Rattle.jc_runner.specs.declared.bench.StepAnswer.{StepAnswer}
 use Rattle.jc_runner.specs.declared.bench.StepAnswer.TheVariants as A
-use Rattle.jc_runner.specs.Legal.{IsLegal}
+use Rattle.jc_choice.specs.Legal.{IsLegal}
 
 -- The history ends with the event, whose number is the history's length; it is a step from the network before it.
 pub record IsMadeEvent (s : Scenario) (e : Event) (seen mine new_mine : List Event) (number : ℕ)

@@ -1,10 +1,6 @@
-pub mod Phases
-pub mod Chosen
-pub mod Legal
 pub mod Recording
 pub mod Asked
 pub mod Benches
 pub mod Answers
-pub mod Laws
 pub mod WorkerResult
 pub mod Reports

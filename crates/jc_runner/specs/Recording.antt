@@ -1,5 +1,5 @@
 -- What contracts see of a recorded network, and what its type keeps: `Recorded`'s view and invariant.
-use Rattle.std.specs.Prelude.{◌≡◌, ℕ, ◌≤◌, List, length, refl}
+use Rattle.std.specs.Prelude.{◌≡◌, ℕ, ◌≤◌, List, [], length, refl}
 use Rattle.std.specs.Coded.{Coded, code_by, coded×, coded_ℕ, coded_list}
 use Rattle.jc_rules.specs.declared.limits.TheConstants.{MAX_EVENTS}
 use Rattle.jc_rules.specs.declared.operation.Event.{Event}
@@ -10,7 +10,7 @@ use Rattle.jc_rules.specs.Syntax.{Cmd}
 use Rattle.jc_replica.specs.Codes.{cmd_code}
 use Rattle.jc_network.specs.NetworkHistory.{NetworkHistory, network_history_code}
 use Rattle.jc_scenario.specs.WellFormed.{Scenario}
-use Rattle.jc_runner.specs.Legal.{IsLegal}
+use Rattle.jc_choice.specs.Legal.{IsLegal}
 
 -- a network, the events that were made, and the scenario from whose start they were made
 pub record Recording : Type 0 where
@@ -39,9 +39,9 @@ recording_code =
 abbrev pub recording : NetworkHistory → List Event → Scenario → Recording
 recording net schedule start = record { net = net; schedule = schedule; start = start }
 
--- The events lead from the start to the network, which counts them, and there aren't too many.
+-- The events lead from the start to the network, from which nothing can be taken back, and there aren't too many.
 pub record IsRecorded (net : NetworkHistory) (schedule : List Event) (start : Scenario) : Type 0 where
   pub legal : IsLegal schedule start net.history.now
   pub named : net.names ≡ start.names
-  pub counted : length net.history.earlier ≡ length schedule
+  pub begun : net.history.earlier ≡ []
   pub small : length schedule ≤ MAX_EVENTS

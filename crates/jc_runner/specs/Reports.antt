@@ -10,13 +10,13 @@ use Rattle.jc_network.specs.Given.{before_given, IsGivenFault}
 use Rattle.jc_printer.specs.Canon.{AreNamed}
 use Rattle.jc_scenario.specs.WellFormed.{Scenario, IsWellFormedScenario}
 use Rattle.jc_scenario.specs.Views.{scenario_view}
-use Rattle.jc_runner.specs.declared.worker.End.{End}
-use Rattle.jc_runner.specs.declared.worker.End.TheVariants as N
+use Rattle.jc_choice.specs.declared.end.End.{End}
+use Rattle.jc_choice.specs.declared.end.End.TheVariants as N
 use Rattle.jc_runner.specs.declared.run.Report.{Report}
 use Rattle.jc_runner.specs.declared.run.RunFault.{RunFault}
 use Rattle.jc_runner.specs.declared.run.RunFault.TheVariants as R
-use Rattle.jc_runner.specs.Laws.{with_schedule}
-use Rattle.jc_runner.specs.Legal.{IsLegal, AllChosen, own_events}
+use Rattle.jc_choice.specs.Laws.{with_schedule}
+use Rattle.jc_choice.specs.Legal.{IsLegal, AllChosen, own_events}
 use Rattle.jc_runner.specs.WorkerResult.{IsStuckAfter, ChoosesAfter}
 
 -- no command of replica p is left in the network
@@ -61,13 +61,14 @@ pub record HasWorked (s : Scenario) (limit : ℕ) (r : Report) (p : ℕ) : Type 
   pub chosen : AllChosen s p r.schedule.items
   pub end : (d : End) → slice_get r.ends.items p ≡ Some d → HasEnd s p limit r.schedule.items r.net.history.now d
 
--- The schedule leads from the scenario's start to the network, the scenario may have it in place of its own, and what
--- the report says of each replica is true.
+-- The schedule leads from the scenario's start to the network, from which nothing can be taken back. The scenario may
+-- have it in place of its own, and what the report says of each replica is true.
 pub record IsReport (s : Scenario) (limit : ℕ) (r : Report) : Type 0 where
   pub start : scenario_view r.start ≡ s
   pub legal : IsLegal r.schedule.items s r.net.history.now
   pub well_formed : IsWellFormedScenario (with_schedule (scenario_view r.start) r.schedule.items)
   pub named : r.net.names ≡ s.names
+  pub begun : r.net.history.earlier ≡ []
   pub small : length r.schedule.items ≤ MAX_EVENTS
   pub each_made : length r.made.items ≡ length s.scripts
   pub each_end : length r.ends.items ≡ length s.scripts

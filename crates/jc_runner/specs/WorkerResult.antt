@@ -11,13 +11,13 @@ use Rattle.jc_scenario.specs.WellFormed.{Scenario}
 use Rattle.jc_runner.specs.declared.bench.Bench.{Bench}
 use Rattle.jc_runner.specs.declared.bench.StepAnswer.{StepAnswer}
 use Rattle.jc_runner.specs.declared.bench.StepAnswer.TheVariants as A
-use Rattle.jc_runner.specs.declared.worker.End.{End}
-use Rattle.jc_runner.specs.declared.worker.End.TheVariants as N
+use Rattle.jc_choice.specs.declared.end.End.{End}
+use Rattle.jc_choice.specs.declared.end.End.TheVariants as N
 use Rattle.jc_runner.specs.declared.worker.Worked.{Worked}
 use Rattle.jc_runner.specs.Benches.{ReplicaPass, IsPassAt, IsNewAt, bench_start}
-use Rattle.jc_runner.specs.Phases.{last_event_of}
-use Rattle.jc_runner.specs.Chosen.{chosen}
-use Rattle.jc_runner.specs.Legal.{IsLegal, AllChosen, own_events}
+use Rattle.jc_choice.specs.Phases.{last_event_of}
+use Rattle.jc_choice.specs.Chosen.{chosen}
+use Rattle.jc_choice.specs.Legal.{IsLegal, AllChosen, own_events}
 
 -- after the history no command of replica p is left
 pub record IsFinishedAfter (s : Scenario) (p : ℕ) (history : List Event) : Type 0 where

@@ -69,7 +69,7 @@ pub enum StepAnswer {
 }
 
 impl Bench {
-    ghost use Rattle.std.specs.Prelude.{◌≡◌, ◌+◌, ◌<◌, ◌≤◌, ◌↔◌, length, All, map, IfOk, IfErr, IsOk, IsSome, Some};
+    ghost use Rattle.std.specs.Prelude.{◌≡◌, ◌+◌, ◌<◌, ◌≤◌, ◌↔◌, [], length, All, map, IfOk, IfErr, IsOk, IsSome, Some};
     ghost use Rattle.std.specs.List.{range_with_len};
     ghost use mathlib.Core.List.{IsPrefix};
     ghost use Rattle.jc_rules.specs.declared.limits.TheConstants.{MAX_THREAD_EVENTS};
@@ -80,7 +80,7 @@ impl Bench {
     ghost use Rattle.jc_scenario.specs.Views.{scenario_view};
     ghost use Rattle.jc_runner.specs.Answers.{IsStepAnswered, IsSpent, seen_after};
     ghost use Rattle.jc_runner.specs.Benches.{IsPassAt, IsPassFor, IsNewAt, IsSameBench, IsOpenFault, bench_start, bench_passes};
-    ghost use Rattle.jc_runner.specs.Legal.{IsLegal, own_events};
+    ghost use Rattle.jc_choice.specs.Legal.{IsLegal, own_events};
 
     /// Opens a bench at the scenario's start, with one pass of `limit` takes for each replica. The scenario's schedule
     /// is ignored.
@@ -190,9 +190,9 @@ impl Bench {
         self.lock.count(pass)
     }
 
-    /// Returns the network and its schedule, which leads to it from the start of the bench's scenario. What each pass
-    /// has seen is a prefix of the schedule. The events of each pass in it are those that were made under the pass, and
-    /// it has no others.
+    /// Returns the network and its schedule, which leads to it from the start of the bench's scenario. The network has
+    /// begun there, so no event can be taken back. What each pass has seen is a prefix of the schedule. The events of
+    /// each pass in it are those that were made under the pass, and it has no others.
     ///
     /// 43 exactly where the numbers of the passes aren't those of `open`, each once. Then bench and passes come back
     /// unchanged.
@@ -200,6 +200,7 @@ impl Bench {
         requires { All (IsPassAt self) passes.items }
         ensures when { IsOk result ↔ EachOnce (bench_passes self) (map pass_number passes.items) }
         ensures legal { IfOk result (λ r. IsLegal r.schedule (bench_start self) r.net.history.now) }
+        ensures begun { IfOk result (λ r. r.net.history.earlier ≡ []) }
         ensures origin { IfOk result (λ r. r.start ≡ bench_start self) }
         ensures seen { IfOk result (λ r. All (λ p. IsPrefix (pass_seen p) r.schedule) passes.items) }
         ensures mine { IfOk result (λ r.
@@ -209,7 +210,7 @@ impl Bench {
     {
         match self.lock.close(passes) {
             Ok(recorded) => {
-                // Reading a field makes known what the type keeps: that the schedule leads to the network.
+                // Reading a field makes known what the type keeps of the network and the schedule.
                 let _ = &recorded.schedule;
                 Ok(recorded)
             }

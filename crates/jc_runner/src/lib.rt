@@ -13,18 +13,13 @@
 #![tactic(auto)]
 
 mod bench;
-mod choosing;
-pub mod laws;
-mod phase;
 mod recorded;
 mod run;
 mod starting;
 mod worker;
 
 pub use bench::{Bench, BenchFault, Pass, StepAnswer, UnclosedBench};
-pub use choosing::{choose, yields};
-pub use phase::Phase;
 pub use recorded::Recorded;
 pub use run::{Report, RunFault, run_threads};
 pub use starting::SpawnRefused;
-pub use worker::{End, Gate};
+pub use worker::Gate;

@@ -14,7 +14,7 @@ use jc_scenario::Scenario;
 use std::marker::Model;
 
 /// A network, the events that were made from a scenario's start, and the scenario. The type keeps that the events lead
-/// to the network, and that they are `MAX_EVENTS` at most.
+/// to the network, which has begun there, so none of them can be taken back; and that they are `MAX_EVENTS` at most.
 #[derive(Drop)]
 pub struct Recorded {
     pub net: Net,
@@ -97,6 +97,8 @@ impl Recorded {
             return Err(StepFault::Memory);
         }
         let trace = net.step(event)?;
+        // Nobody goes back at a bench, so nothing is kept for that.
+        net.begin();
         schedule.push_reserved(*event);
         Ok(trace)
     }

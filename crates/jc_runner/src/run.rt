@@ -10,7 +10,8 @@ ghost use Rattle.jc_runner.specs.declared.run.RunFault.TheVariants.{Memory as Wa
 use crate::bench::{Bench, BenchFault, Pass};
 use crate::recorded::Recorded;
 use crate::starting::{SpawnRefused, Works, start};
-use crate::worker::{End, Gate, Worked};
+use crate::worker::{Gate, Worked};
+use jc_choice::End;
 use jc_network::{Net, Stuck};
 use jc_rules::Event;
 use jc_scenario::Scenario;
@@ -116,7 +117,7 @@ fn start_all<'s, E, R: Threads + Wait + Sync, G: Gate + Send + Drop + 's>(
 /// The result of a run by threads.
 #[derive(Drop)]
 pub struct Report {
-    /// The network after all events.
+    /// The network after all events. It has begun there: none can be taken back.
     pub net: Net,
     /// The events in the order in which they were made.
     pub schedule: Vec<Event>,

@@ -6,9 +6,7 @@ ghost use Rattle.jc_runner.specs.Benches.{IsNewAt, bench_start};
 ghost use Rattle.jc_runner.specs.WorkerResult.{IsWorkerResult, end_of};
 
 use crate::bench::{Bench, Pass, StepAnswer};
-use crate::choosing::choose;
-use crate::phase::Phase;
-use jc_network::Stuck;
+use jc_choice::{End, Phase, choose};
 use std::sync::Wait;
 
 /// A hook that a replica's thread calls before each take, while it holds no turn.
@@ -20,19 +18,6 @@ pub trait Gate {
     /// Asks the gate; `step` is the number of events that the replica has made.
     fn before<R: Wait>(&mut self, rt: &R, replica: u16, step: u64)
         ensures { Asks (asked self.old) (asked self.new) ((replica, step) ∷ []) };
-}
-
-/// How a replica's thread ended.
-#[derive(Drop)]
-pub enum End {
-    /// No command was left.
-    Finished,
-    /// The event that it chose is stuck.
-    StuckAt(Stuck),
-    /// Its pass has no take left, or the schedule has `MAX_EVENTS` events.
-    LimitReached,
-    /// A request for memory was refused.
-    NoMemory,
 }
 
 /// The result of a thread: the replica's pass, the number of events that it made, and how it ended.

@@ -28,10 +28,10 @@ use Rattle.jc_debug.specs.declared.fault.ActFault.{ActFault}
 use Rattle.jc_debug.specs.declared.fault.ActFault.TheVariants as AF
 use Rattle.jc_debug.specs.declared.fault.GotoFault.{GotoFault}
 use Rattle.jc_debug.specs.declared.fault.GotoFault.TheVariants as GF
-use Rattle.jc_debug.specs.declared.fault.RunFault.{RunFault}
-use Rattle.jc_debug.specs.declared.fault.RunFault.TheVariants as RF
-use Rattle.jc_debug.specs.declared.fault.StepFault.{StepFault}
-use Rattle.jc_debug.specs.declared.fault.StepFault.TheVariants as SF
+use Rattle.jc_debug.specs.declared.fault.DebugRunFault.{DebugRunFault}
+use Rattle.jc_debug.specs.declared.fault.DebugRunFault.TheVariants as RF
+use Rattle.jc_debug.specs.declared.fault.DebugStepFault.{DebugStepFault}
+use Rattle.jc_debug.specs.declared.fault.DebugStepFault.TheVariants as SF
 use Rattle.jc_debug.specs.declared.fault.RunEnd.{RunEnd}
 use Rattle.jc_debug.specs.declared.fault.RunEnd.TheVariants as E
 use Rattle.jc_debug.specs.Moves.{MoveStopsAt, IsToldAt, IsStepFault, IsGotoFault, IsDebugRunFault, IsActFault, IsTraceOf, RunMoves, IsActed, IsStuckHere, IsSet, IsCleared, IsNoBreak}
@@ -153,15 +153,15 @@ went_back a n exactly = not_less a n (λ lt. true_false (exactly.1 lt))
 pub back_past : (d e : Seen) (n : ℕ) (text : List ℕ) → length d.traces < n → e ≡ d → text ≡ refusal_line F.AtStart → GivesAnswer d (Q.back n) e text
 back_past d e n text lt same h = gives_same d e (Q.back n) text same (same_text (origin_in d) (session_of d) (session_of d) (Q.back n) (refusal_line F.AtStart) text h (A.back_past lt))
 
-pub step_past : (d e : Seen) (n : ℕ) (fault : StepFault) (text : List ℕ) → fault ≡ SF.AtEnd → ((◌≡◌ {A = Result (Unit {0}) StepFault} (Err fault) (Err SF.AtEnd)) ↔ (length d.schedule < length d.traces + n)) → IsStepFault d e (length d.traces + n) fault → text ≡ refusal_line F.AtEnd → GivesAnswer d (Q.step n) e text
+pub step_past : (d e : Seen) (n : ℕ) (fault : DebugStepFault) (text : List ℕ) → fault ≡ SF.AtEnd → ((◌≡◌ {A = Result (Unit {0}) DebugStepFault} (Err fault) (Err SF.AtEnd)) ↔ (length d.schedule < length d.traces + n)) → IsStepFault d e (length d.traces + n) fault → text ≡ refusal_line F.AtEnd → GivesAnswer d (Q.step n) e text
 step_past d e n fault text is exactly h due =
-    gives_same d e (Q.step n) text (subst (λ (f : StepFault). IsStepFault d e (length d.traces + n) f) is h)
+    gives_same d e (Q.step n) text (subst (λ (f : DebugStepFault). IsStepFault d e (length d.traces + n) f) is h)
     (same_text (origin_in d) (session_of d) (session_of d) (Q.step n) (refusal_line F.AtEnd) text due (A.steps_past (exactly.0 (ap Err is))))
 
-pub step_halted : (d e : Seen) (to : ℕ) (fault : StepFault) (s : Stuck) → fault ≡ SF.Stuck s → IsStepFault d e to fault → Halted d e to s
-step_halted d e to fault s is h = subst (λ (f : StepFault). IsStepFault d e to f) is h
+pub step_halted : (d e : Seen) (to : ℕ) (fault : DebugStepFault) (s : Stuck) → fault ≡ SF.Stuck s → IsStepFault d e to fault → Halted d e to s
+step_halted d e to fault s is h = subst (λ (f : DebugStepFault). IsStepFault d e to f) is h
 
-pub step_stuck : (d e : Seen) (n m : ℕ) (net : NetworkHistory) (fault : StepFault) (s : Stuck) (text : List ℕ) → fault ≡ SF.Stuck s → ((◌≡◌ {A = Result (Unit {0}) StepFault} (Err fault) (Err SF.AtEnd)) ↔ (length d.schedule < length d.traces + n)) → IsStepFault d e (length d.traces + n) fault → m ≡ length e.traces → net ≡ e.net → TellsStuck m net s text → GivesAnswer d (Q.step n) e text
+pub step_stuck : (d e : Seen) (n m : ℕ) (net : NetworkHistory) (fault : DebugStepFault) (s : Stuck) (text : List ℕ) → fault ≡ SF.Stuck s → ((◌≡◌ {A = Result (Unit {0}) DebugStepFault} (Err fault) (Err SF.AtEnd)) ↔ (length d.schedule < length d.traces + n)) → IsStepFault d e (length d.traces + n) fault → m ≡ length e.traces → net ≡ e.net → TellsStuck m net s text → GivesAnswer d (Q.step n) e text
 step_stuck d e n m net fault s text is exactly h at same told =
     reply_step_stuck d e n m net s text (err_not_past {T = Unit {0}} (length d.schedule) (length d.traces + n) fault SF.AtEnd (λ o. let x : SF.Stuck s ≡ SF.AtEnd = sym is ∙ o in cc) exactly) (step_halted d e (length d.traces + n) fault s is h) at same told
 
@@ -179,9 +179,9 @@ goto_stuck d e n m net fault s text is exactly h at same told =
 
 -- ---- runs
 
-pub run_past : (d e : Seen) (fault : RunFault) (text : List ℕ) → fault ≡ RF.AtEnd → ((◌≡◌ {A = Result RunEnd RunFault} (Err fault) (Err RF.AtEnd)) ↔ (length d.traces ≡ length d.schedule)) → IsDebugRunFault d e fault → text ≡ refusal_line F.AtEnd → GivesAnswer d Q.run e text
+pub run_past : (d e : Seen) (fault : DebugRunFault) (text : List ℕ) → fault ≡ RF.AtEnd → ((◌≡◌ {A = Result RunEnd DebugRunFault} (Err fault) (Err RF.AtEnd)) ↔ (length d.traces ≡ length d.schedule)) → IsDebugRunFault d e fault → text ≡ refusal_line F.AtEnd → GivesAnswer d Q.run e text
 run_past d e fault text is exactly h due =
-    gives_same d e Q.run text (subst (λ (f : RunFault). IsDebugRunFault d e f) is h)
+    gives_same d e Q.run text (subst (λ (f : DebugRunFault). IsDebugRunFault d e f) is h)
     (same_text (origin_in d) (session_of d) (session_of d) Q.run (refusal_line F.AtEnd) text due (A.runs_past (exactly.0 (ap Err is))))
 
 -- the text of a run's end
@@ -217,8 +217,8 @@ pub run_is : (d e : Seen) (end end_is : RunEnd) → end ≡ end_is → RunMoves 
 run_is d e end end_is is r = subst (λ (x : RunEnd). RunMoves d e x) is r
 
 -- a run that was made didn't begin at the end
-pub not_at_end : (d : Seen) (end : RunEnd) → ((◌≡◌ {A = Result RunEnd RunFault} (Ok end) (Err RF.AtEnd)) ↔ (length d.traces ≡ length d.schedule)) → length d.traces ≡ length d.schedule → ⊥
-not_at_end d end exactly h = let e : ◌≡◌ {A = Result RunEnd RunFault} (Ok end) (Err RF.AtEnd) = exactly.1 h in cc
+pub not_at_end : (d : Seen) (end : RunEnd) → ((◌≡◌ {A = Result RunEnd DebugRunFault} (Ok end) (Err RF.AtEnd)) ↔ (length d.traces ≡ length d.schedule)) → length d.traces ≡ length d.schedule → ⊥
+not_at_end d end exactly h = let e : ◌≡◌ {A = Result RunEnd DebugRunFault} (Ok end) (Err RF.AtEnd) = exactly.1 h in cc
 
 pub reply_run : (d e : Seen) (end : RunEnd) (m : ℕ) (net : NetworkHistory) (text : List ℕ) → IsDebugger e → (length d.traces ≡ length d.schedule → ⊥) → RunMoves d e end → m ≡ length e.traces → net ≡ e.net → TellsEnd m net end text → GivesAnswer d Q.run e text
 reply_run d e end m net text trail other r at same h =

@@ -22,7 +22,7 @@ use crate::texts::{
     at_and, at_line, break_line, cleared_line, compared_line, dump_lines, event_lines,
     numbered_lines, or_none, refusal_line, set_line, where_line,
 };
-use jc_debug::{ActFault, BreakFault, Debugger, GotoFault, RunEnd, RunFault, StepFault};
+use jc_debug::{ActFault, BreakFault, DebugRunFault, DebugStepFault, Debugger, GotoFault, RunEnd};
 use jc_dump::{block_text, dump_replica, refused_text, stuck_text};
 use jc_meaning::compare;
 use jc_network::{Net, Stuck};
@@ -51,14 +51,14 @@ fn step(alloc: Global, debugger: &mut Debugger, n: u64) -> Result<String, AllocE
 {
     match debugger.step(n) {
         Ok(()) => at_line(alloc, debugger.position()),
-        Err(StepFault::AtEnd) => refusal_line(alloc, Refusal::AtEnd),
-        Err(StepFault::Stuck(stuck)) => stuck_at(
+        Err(DebugStepFault::AtEnd) => refusal_line(alloc, Refusal::AtEnd),
+        Err(DebugStepFault::Stuck(stuck)) => stuck_at(
             alloc,
             debugger.position(),
             debugger.net(),
             &stuck,
         ),
-        Err(StepFault::Memory) => Err(AllocError),
+        Err(DebugStepFault::Memory) => Err(AllocError),
     }
 }
 
@@ -100,8 +100,8 @@ fn run(alloc: Global, debugger: &mut Debugger) -> Result<String, AllocError>
         }
         Ok(RunEnd::Stuck(stuck)) => stuck_at(alloc, debugger.position(), debugger.net(), &stuck),
         Ok(RunEnd::End) => at_and(alloc, debugger.position(), "end\n"),
-        Err(RunFault::AtEnd) => refusal_line(alloc, Refusal::AtEnd),
-        Err(RunFault::Memory) => Err(AllocError),
+        Err(DebugRunFault::AtEnd) => refusal_line(alloc, Refusal::AtEnd),
+        Err(DebugRunFault::Memory) => Err(AllocError),
     }
 }
 

@@ -22,11 +22,11 @@ ghost use Rattle.jc_session.specs.Written.{sink, Wrote, Interrupted, Written};
 use crate::answers::{answer, fault_line};
 use crate::lines::{Lines, Next};
 use jc_debug::Debugger;
-use jc_dump::given_text;
+use jc_dump::named_given_text;
 use jc_io::{Failed, Sink, Source, write_all};
 use jc_network::{StartFault, Stuck};
-use jc_rules::{Text, Version};
-use jc_scenario::{Scenario, ScenarioFault, copy_names, read};
+use jc_rules::Text;
+use jc_scenario::{ScenarioFault, copy_names, read};
 use std::alloc::{AllocError, Global};
 
 /// How a session ended.
@@ -141,7 +141,7 @@ fn converse<S: Source, K: Sink>(
     // Where no read failed, what was read is a prefix of what was left.
     ensures left { IsErrOf result SessionFault.ReadFailed ⊎ LosesFront (S.left source.old) (S.left source.new) }
     // Failures come with these answers alone.
-    ensures reads { (IsErrOf result SessionFault.ReadFailed → S.failures source.old < S.failures source.new)
+    ensures reads { (IsErrOf result SessionFault.ReadFailed → S.failures source.new ≡ S.failures source.old + 1)
         × ((IsErrOf result SessionFault.ReadFailed → ⊥) → S.failures source.new ≡ S.failures source.old) }
     ensures writes { (IsErrOf result SessionFault.WriteFailed → K.failures out.new ≡ K.failures out.old + 1)
         × ((IsErrOf result SessionFault.WriteFailed → ⊥) → K.failures out.new ≡ K.failures out.old) }
@@ -181,30 +181,22 @@ fn refuse<K: Sink>(alloc: Global, fault: &ScenarioFault, out: &mut K) -> Result<
 /// Writes the lines of a given event that is stuck, by its number from 1 and the names of replicas.
 fn show_stuck<K: Sink>(
     alloc: Global,
-    names: Vec<Text>,
+    names: &[Text],
     at: u64,
     stuck: &Stuck,
     out: &mut K,
 ) -> Result<(), SessionFault>
-    requires { IsNamedStuck names.items stuck.now }
+    requires { IsNamedStuck names.now stuck.now }
     ensures ok { OnOk result ((why : Cause) (event : AnyEvent)
         → stuck.now ≡ stuck_for why event
-        → Wrote (given_text names.items at why event) (sink K.Sink out.old) (sink K.Sink out.new)) }
+        → Wrote (given_text names.now at why event) (sink K.Sink out.old) (sink K.Sink out.new)) }
     ensures memory { IsErrOf result SessionFault.Memory → out.new ≡ out.old }
     ensures write { IsErrOf result SessionFault.WriteFailed → (why : Cause) (event : AnyEvent)
         → stuck.now ≡ stuck_for why event
-        → Interrupted (given_text names.items at why event) (sink K.Sink out.old) (sink K.Sink out.new) }
+        → Interrupted (given_text names.now at why event) (sink K.Sink out.old) (sink K.Sink out.new) }
     ensures kind { IfErr result IsOfAnswer }
 {
-    // The lines need no part of a scenario but its names.
-    let named = Scenario {
-        version: Version::One,
-        names,
-        scripts: Vec::new(alloc),
-        given: Vec::new(alloc),
-        schedule: Vec::new(alloc),
-    };
-    let text = given_text(alloc, &named, at, stuck)?;
+    let text = named_given_text(alloc, names, at, stuck)?;
     send(out, text.as_str())
 }
 
@@ -256,7 +248,7 @@ pub fn session<S: Source, K: Sink>(
     // Where no read failed, what was read is a prefix of the lines.
     ensures left { IsErrOf result SessionFault.ReadFailed ⊎ LosesFront (S.left lines.old) (S.left lines.new) }
     // Failures come with these answers alone.
-    ensures reads { (IsErrOf result SessionFault.ReadFailed → S.failures lines.old < S.failures lines.new)
+    ensures reads { (IsErrOf result SessionFault.ReadFailed → S.failures lines.new ≡ S.failures lines.old + 1)
         × ((IsErrOf result SessionFault.ReadFailed → ⊥) → S.failures lines.new ≡ S.failures lines.old) }
     ensures writes { (IsErrOf result SessionFault.WriteFailed → K.failures out.new ≡ K.failures out.old + 1)
         × ((IsErrOf result SessionFault.WriteFailed → ⊥) → K.failures out.new ≡ K.failures out.old) }
@@ -275,7 +267,7 @@ pub fn session<S: Source, K: Sink>(
     let mut debugger = match Debugger::new(alloc, scenario) {
         Ok(debugger) => debugger,
         Err(StartFault::Given { at, stuck }) => {
-            show_stuck(alloc, names, at, &stuck, out)?;
+            show_stuck(alloc, &names, at, &stuck, out)?;
             return Ok(SessionEnd::GivenStuck);
         }
         Err(StartFault::Memory) => return Err(SessionFault::Memory),

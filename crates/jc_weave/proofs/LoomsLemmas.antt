@@ -4,7 +4,7 @@ use Rattle.std.proofs.lemmas.Nat.{mod_below}
 use Rattle.rand_pcg.specs.Lcg.{Lcg}
 use Rattle.rand_pcg.specs.Pcg.{pcg32}
 use Rattle.jc_rules.specs.State.{State}
-use Rattle.jc_runner.specs.declared.phase.Phase.{Phase}
+use Rattle.jc_choice.specs.declared.phase.Phase.{Phase}
 use Rattle.jc_weave.specs.Looms.{is_waiting, eager_of, or_all, pool, drawn_of, without_replica}
 
 -- beyond its end a list is left as it is

@@ -7,7 +7,7 @@ use Rattle.jc_rules.specs.Step.{Network, StepIn}
 use Rattle.jc_rules.proofs.VersionLemmas.{one_step_in, one_after_in, one_stuck_in, stuck_in_has_none}
 use Rattle.jc_network.specs.Given.{before_given}
 use Rattle.jc_scenario.specs.WellFormed.{Scenario}
-use Rattle.jc_runner.specs.declared.worker.End.{End}
+use Rattle.jc_choice.specs.declared.end.End.{End}
 use Rattle.jc_weave.specs.Looms.{Loom, LoomTurn, makes, finishes, gets_stuck, MakesChosen, LeavesLoom, ChoosesStuck, IsLoomTurn, WeavesTo, drawn_replica, drawn_choice}
 use Rattle.jc_weave.specs.Weaving.{loom, first_loom, made_events, stuck_events, ends_in, IsWoven}
 

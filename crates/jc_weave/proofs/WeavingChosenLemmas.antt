@@ -6,14 +6,14 @@ use Rattle.jc_rules.specs.State.{State}
 use Rattle.jc_rules.specs.Step.{Network, replica_of}
 use Rattle.jc_network.proofs.AfterLemmas.{after_one_more}
 use Rattle.jc_scenario.specs.WellFormed.{Scenario, IsWellFormedScenario}
-use Rattle.jc_runner.specs.declared.phase.Phase.{Phase}
-use Rattle.jc_runner.specs.declared.worker.End.{End}
-use Rattle.jc_runner.specs.Phases.{last_event_of, phase_after}
-use Rattle.jc_runner.specs.Chosen.{choice, chosen_in}
-use Rattle.jc_runner.specs.Legal.{IsLegal, own_events, IsChosenAfter, AllChosen}
-use Rattle.jc_runner.proofs.ChosenLemmas.{choice_is}
-use Rattle.jc_runner.proofs.LegalGrowsLemmas.{last_more, own_both, chosen_more, chosen_none}
-use Rattle.jc_runner.proofs.WorkerResultLemmas.{as_many, chosen_now}
+use Rattle.jc_choice.specs.declared.phase.Phase.{Phase}
+use Rattle.jc_choice.specs.declared.end.End.{End}
+use Rattle.jc_choice.specs.Phases.{last_event_of, phase_after}
+use Rattle.jc_choice.specs.Chosen.{choice, chosen_in}
+use Rattle.jc_choice.specs.Legal.{IsLegal, own_events, IsChosenAfter, AllChosen}
+use Rattle.jc_choice.proofs.ChosenLemmas.{choice_is}
+use Rattle.jc_choice.proofs.LegalGrowsLemmas.{last_more, own_both, chosen_more, chosen_none}
+use Rattle.jc_choice.proofs.ChosenNowLemmas.{as_many, chosen_now}
 use Rattle.jc_weave.specs.Looms.{Loom, LoomTurn, makes, finishes, gets_stuck, WeavesTo, phase_at, drawn_replica}
 use Rattle.jc_weave.specs.Weaving.{first_loom, made_events, all_start, IsWoven}
 

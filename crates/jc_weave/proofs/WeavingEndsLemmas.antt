@@ -9,13 +9,13 @@ use Rattle.jc_rules.proofs.VersionLemmas.{after_states}
 use Rattle.jc_network.specs.declared.fault.Stuck.{Stuck}
 use Rattle.jc_network.specs.Steps.{stuck_for}
 use Rattle.jc_scenario.specs.WellFormed.{Scenario}
-use Rattle.jc_runner.specs.declared.phase.Phase.{Phase}
-use Rattle.jc_runner.specs.declared.worker.End.{End}
-use Rattle.jc_runner.specs.declared.worker.End.TheVariants as N
-use Rattle.jc_runner.specs.Chosen.{choice, chosen_by, chosen_in}
-use Rattle.jc_runner.specs.Legal.{own_events}
-use Rattle.jc_runner.proofs.ChosenLemmas.{choice_is}
-use Rattle.jc_runner.proofs.ReportsLemmas.{untouched}
+use Rattle.jc_choice.specs.declared.phase.Phase.{Phase}
+use Rattle.jc_choice.specs.declared.end.End.{End}
+use Rattle.jc_choice.specs.declared.end.End.TheVariants as N
+use Rattle.jc_choice.specs.Chosen.{choice, chosen_by, chosen_in}
+use Rattle.jc_choice.specs.Legal.{own_events}
+use Rattle.jc_choice.proofs.ChosenLemmas.{choice_is}
+use Rattle.jc_choice.proofs.LegalGrowsLemmas.{untouched}
 use Rattle.jc_weave.specs.Looms.{Loom, LoomTurn, makes, finishes, gets_stuck, WeavesTo, phase_at, drawn_replica, without_replica}
 use Rattle.jc_weave.specs.Weaving.{first_loom, made_events, stuck_events, numbers_from, end_of_left, end_of_state, end_or, end_in, ends_in, IsWoven}
 use Rattle.jc_weave.proofs.LoomsLemmas.{In, drawn_live}

@@ -10,10 +10,10 @@ use Rattle.jc_network.specs.Given.{IsStarted}
 use Rattle.jc_network.specs.NetworkHistory.{NetworkHistory}
 use Rattle.jc_network.specs.Steps.{IsStuckFor}
 use Rattle.jc_scenario.specs.WellFormed.{Scenario}
-use Rattle.jc_runner.specs.declared.phase.Phase.{Phase}
-use Rattle.jc_runner.specs.declared.worker.End.{End}
-use Rattle.jc_runner.specs.Chosen.{choice}
-use Rattle.jc_runner.specs.Legal.{IsLegal}
+use Rattle.jc_choice.specs.declared.phase.Phase.{Phase}
+use Rattle.jc_choice.specs.declared.end.End.{End}
+use Rattle.jc_choice.specs.Chosen.{choice}
+use Rattle.jc_choice.specs.Legal.{IsLegal}
 use Rattle.jc_weave.specs.Looms.{Loom, LoomTurn, makes, finishes, gets_stuck, IsLoomTurn, WeavesTo, LeavesLoom, phase_at, pool, drawn_of, without_replica}
 use Rattle.jc_weave.specs.Weaving.{seeded, all_start, numbers_from, loom, first_loom, with_made, made_events, with_stuck, stuck_events, ends_in, IsLoomAfter, IsOneTurnMore, IsWoven}
 

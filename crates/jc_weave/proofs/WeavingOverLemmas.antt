@@ -7,7 +7,7 @@ use Rattle.jc_network.specs.Laws.{IsReached}
 use Rattle.jc_network.proofs.EnabledLemmas.{StepsOrStuckIn}
 use Rattle.jc_network.proofs.GivenLemmas.{step_or_stuck_in, reached_more}
 use Rattle.jc_network.proofs.GivenHistoryLemmas.{start_reached}
-use Rattle.jc_runner.specs.declared.phase.Phase.{Phase}
+use Rattle.jc_choice.specs.declared.phase.Phase.{Phase}
 use Rattle.jc_weave.specs.Laws.{EachSeedWeaves}
 use Rattle.jc_weave.specs.Looms.{Loom, LoomTurn, makes, finishes, gets_stuck, IsLoomTurn, WeavesTo, LeavesLoom, drawn_replica, drawn_choice, without_replica}
 use Rattle.jc_weave.specs.Weaving.{loom, first_loom, numbers_from, made_events, stuck_events, ends_in}

@@ -17,12 +17,12 @@ use Rattle.jc_network.specs.Steps.{stuck_for}
 use Rattle.jc_network.proofs.AfterLemmas.{after_one_more}
 use Rattle.jc_network.proofs.RunInvariantStartLemmas.{start_well, after_well}
 use Rattle.jc_scenario.specs.WellFormed.{Scenario, IsWellFormedScenario}
-use Rattle.jc_runner.specs.declared.worker.End.{End}
-use Rattle.jc_runner.specs.declared.worker.End.TheVariants as N
-use Rattle.jc_runner.specs.Legal.{IsLegal}
-use Rattle.jc_runner.proofs.ChosenNamesLemmas.{IsNamedChoice, chosen_named}
-use Rattle.jc_runner.proofs.LegalGrowsLemmas.{legal_states}
-use Rattle.jc_runner.proofs.WorkerResultLemmas.{as_many}
+use Rattle.jc_choice.specs.declared.end.End.{End}
+use Rattle.jc_choice.specs.declared.end.End.TheVariants as N
+use Rattle.jc_choice.specs.Legal.{IsLegal}
+use Rattle.jc_choice.proofs.ChosenNamesLemmas.{IsNamedChoice, chosen_named}
+use Rattle.jc_choice.proofs.LegalGrowsLemmas.{legal_states}
+use Rattle.jc_choice.proofs.ChosenNowLemmas.{as_many}
 use Rattle.jc_weave.specs.Looms.{Loom, LoomTurn, makes, finishes, gets_stuck, ChoosesStuck, WeavesTo, phase_at, drawn_replica}
 use Rattle.jc_weave.specs.Weaving.{first_loom, stuck_events, numbers_from, end_of_left, end_of_state, end_or, end_in, ends_in, counts_in, IsWoven}
 use Rattle.jc_weave.proofs.WeavingChosenLemmas.{chooser}

@@ -4,9 +4,9 @@ use Rattle.jc_rules.specs.declared.operation.Event.{Event}
 use Rattle.jc_rules.specs.Step.{Network}
 use Rattle.jc_network.specs.Given.{IsStart}
 use Rattle.jc_scenario.specs.WellFormed.{Scenario, IsWellFormedScenario}
-use Rattle.jc_runner.specs.declared.worker.End.{End}
-use Rattle.jc_runner.specs.declared.worker.End.TheVariants.{LimitReached}
-use Rattle.jc_runner.specs.Legal.{IsLegal, AllChosen}
+use Rattle.jc_choice.specs.declared.end.End.{End}
+use Rattle.jc_choice.specs.declared.end.End.TheVariants.{LimitReached}
+use Rattle.jc_choice.specs.Legal.{IsLegal, AllChosen}
 use Rattle.jc_weave.specs.Weaving.{IsWoven}
 
 -- A scenario, a seed and a limit have one schedule at most, and each replica one end.

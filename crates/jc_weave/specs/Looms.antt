@@ -8,9 +8,9 @@ use Rattle.jc_rules.specs.Refused.{Cause, IsStuckIn}
 use Rattle.jc_rules.specs.State.{State}
 use Rattle.jc_rules.specs.Step.{Network, StepIn}
 use Rattle.jc_rules.specs.Syntax.{Cmd}
-use Rattle.jc_runner.specs.declared.phase.Phase.{Phase}
-use Rattle.jc_runner.specs.declared.phase.Phase.TheVariants as P
-use Rattle.jc_runner.specs.Chosen.{choice, is_yield}
+use Rattle.jc_choice.specs.declared.phase.Phase.{Phase}
+use Rattle.jc_choice.specs.declared.phase.Phase.TheVariants as P
+use Rattle.jc_choice.specs.Chosen.{choice, is_yield}
 
 -- The network, the phase of each replica, the numbers of the replicas that haven't left, the generator, and how many
 -- events may still be made.

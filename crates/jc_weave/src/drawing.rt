@@ -5,8 +5,8 @@ ghost use Rattle.jc_syntax.specs.Trees.{cmd_of};
 ghost use Rattle.rand_pcg.specs.Pcg.{pcg32};
 ghost use Rattle.jc_weave.specs.Looms.{is_last_yield, has_sent, is_waiting, phase_at, eager_of, pool, drawn_of};
 
+use jc_choice::{Phase, yields};
 use jc_network::Net;
-use jc_runner::{Phase, yields};
 use jc_syntax::Cmd;
 use rand_core::utils::NextWord;
 use rand_pcg::Pcg32;

@@ -2,12 +2,12 @@
 
 ghost use Rattle.std.specs.Prelude.{◌≡◌, ◌≤◌, length, map, slice_get, IfOk};
 ghost use Rattle.jc_rules.specs.declared.limits.TheConstants.{MAX_EVENTS};
-ghost use Rattle.jc_runner.specs.Legal.{own_events};
+ghost use Rattle.jc_choice.specs.Legal.{own_events};
 ghost use Rattle.jc_weave.specs.Weaving.{end_of_state, end_in};
 
+use jc_choice::End;
 use jc_network::{Net, Stuck};
 use jc_rules::Event;
-use jc_runner::End;
 use std::alloc::{AllocError, Global};
 
 /// The number of events of the replica.

@@ -3,11 +3,11 @@
 ghost use Rattle.std.specs.Prelude.{◌≡◌, ◌≢◌, ◌<◌, ◌≤◌, ◌+◌, ◌++◌, ◌∷◌, [], ℕ, length, map, slice_set, true, false, IfOk, OnOk, IsErrOf};
 ghost use Rattle.rand_pcg.specs.Pcg.{pcg32};
 ghost use Rattle.jc_rules.specs.declared.limits.TheConstants.{MAX_EVENTS, MAX_REPLICAS};
+ghost use Rattle.jc_rules.specs.Step.{StepIn};
 ghost use Rattle.jc_rules.specs.Trace.{Rows};
 ghost use Rattle.jc_network.specs.declared.fault.StartFault.TheVariants.{Given as GivenFault};
 ghost use Rattle.jc_network.specs.declared.fault.Stuck.{Stuck as AnyStuck};
 ghost use Rattle.jc_network.specs.Given.{before_given, IsStarted, IsGivenFault};
-ghost use Rattle.jc_network.specs.NetworkHistory.{StepsTo};
 ghost use Rattle.jc_network.specs.Steps.{IsStuckFor};
 ghost use Rattle.jc_scenario.specs.WellFormed.{Scenario as AnyScenario, IsWellFormedScenario};
 ghost use Rattle.jc_scenario.specs.Views.{scenario_view};
@@ -16,9 +16,9 @@ ghost use Rattle.jc_weave.specs.Weaving.{all_start, numbers_from, loom, counts_i
 
 use crate::drawing::{draw, phase_at};
 use crate::ending::{counts_of, ends_of};
+use jc_choice::{End, Phase, choose};
 use jc_network::{Net, StartFault, StepFault, Stuck};
 use jc_rules::{Event, Text};
-use jc_runner::{End, Phase, choose};
 use jc_scenario::Scenario;
 use rand_pcg::Pcg32;
 use std::alloc::{AllocError, Global};
@@ -81,19 +81,25 @@ fn set_phase(phases: &mut Vec<Phase>, p: u16, next: Phase)
     }
 }
 
-/// Makes the event, and returns whether it was made. Where it is stuck, this is added to the stuck events, and the
-/// network is unchanged.
+/// Makes the event, and returns whether it was made; the network then begins after it. Where it is stuck, this is added
+/// to the stuck events, and the network is unchanged.
 fn step_or_stick(net: &mut Net, event: &Event, stucks: &mut Vec<Stuck>) -> Result<bool, AllocError>
-    requires { length net.old.history.earlier < MAX_EVENTS }
+    requires { net.old.history.earlier ≡ [] }
     ensures made { IfOk result (λ b. b ≡ true
-        → ((rows : Rows) × StepsTo net.old event.now net.new rows) × (stucks.new ≡ stucks.old)) }
+        → ((rows : Rows) × StepIn net.old.history.now event.now net.new.history.now rows.rows)
+        × (stucks.new ≡ stucks.old)) }
+    ensures begun { OnOk result ((net.new.names ≡ net.old.names) × (net.new.history.earlier ≡ [])) }
     ensures stuck { IfOk result (λ b. b ≡ false
         → (net.new ≡ net.old)
         × (s : AnyStuck) × IsStuckFor net.old.history.now event.now s
         × (stucks.new.items ≡ stucks.old.items ++ s ∷ [])) }
 {
     match net.step(event) {
-        Ok(_trace) => Ok(true),
+        Ok(_trace) => {
+            // Nothing goes back here, so nothing is kept for that.
+            net.begin();
+            Ok(true)
+        }
         Err(StepFault::Stuck(stuck)) => {
             stucks.push(stuck)?;
             Ok(false)
@@ -121,14 +127,12 @@ impl Loom {
     fn turn(&mut self, alloc: Global) -> Result<(), AllocError>
         requires room { 0 < self.old.left }
         requires some { self.old.live.items ≢ [] }
-        requires counted { length self.old.net.history.earlier + self.old.left ≤ MAX_EVENTS }
+        requires begun { self.old.net.history.earlier ≡ [] }
         ensures turn { OnOk result (IsOneTurnMore
             (loom self.old.net.history.now self.old.phases.items self.old.live.items self.old.rng self.old.left)
             (loom self.new.net.history.now self.new.phases.items self.new.live.items self.new.rng self.new.left)
             self.old.schedule.items self.new.schedule.items self.old.stucks.items self.new.stucks.items) }
-        ensures counted { OnOk result
-            (length self.new.net.history.earlier + self.new.left
-            ≡ length self.old.net.history.earlier + self.old.left) }
+        ensures begun { OnOk result (self.new.net.history.earlier ≡ []) }
         ensures listed { OnOk result
             (length self.new.schedule.items + self.new.left ≡ length self.old.schedule.items + self.old.left) }
         ensures names { OnOk result (self.new.net.names ≡ self.old.net.names) }
@@ -193,7 +197,7 @@ impl Loom {
 /// A woven schedule.
 #[derive(Drop)]
 pub struct Woven {
-    /// The network after all events.
+    /// The network after all events. It has begun there: none can be taken back.
     pub net: Net,
     /// The events in the order in which they were made.
     pub schedule: Vec<Event>,
@@ -211,6 +215,7 @@ fn weave_from(alloc: Global, net: Net, seed: u64, limit: u64) -> Result<Woven, A
         → IsStarted s net
         → IsWoven s seed limit w.schedule.items w.net.history.now w.ends.items) }
     ensures names { IfOk result (λ w. w.net.names ≡ net.names) }
+    ensures begun { IfOk result (λ w. w.net.history.earlier ≡ []) }
     ensures made { IfOk result (λ w. w.made.items ≡ counts_in w.schedule.items net.names) }
 {
     let phases = phases_of(alloc, net.names())?;
@@ -244,6 +249,7 @@ pub fn weave(alloc: Global, scenario: &Scenario, seed: u64, limit: u64) -> Resul
     ensures woven { IfOk result (λ w.
         IsWoven (scenario_view scenario.now) seed limit w.schedule.items w.net.history.now w.ends.items) }
     ensures names { IfOk result (λ w. w.net.names ≡ (scenario_view scenario.now).names) }
+    ensures begun { IfOk result (λ w. w.net.history.earlier ≡ []) }
     ensures made { IfOk result (λ w. w.made.items ≡ counts_in w.schedule.items (scenario_view scenario.now).names) }
     ensures given { (at : ℕ) (s : AnyStuck) → IsErrOf result (GivenFault at s)
         → IsGivenFault (before_given (scenario_view scenario.now)) (scenario_view scenario.now).given at s }

@@ -9,7 +9,7 @@ use Rattle.jc_tree.specs.Nested.{nested}
 use Rattle.jc_meaning.specs.Seen.{seen}
 use Rattle.jc_meaning.proofs.ClearingEffectsLemmas.{seen_append}
 use Rattle.jc_effects.specs.Difference.{own_difference, below, IsDifference}
-use Rattle.jc_effects.specs.Parts.{IsNamed, AreContexts, AreLater, IsDifferenceAmong, OnlyLosesAt, OnlyLoses, own_seen, differences_of}
+use Rattle.jc_effects.specs.Parts.{IsNameOf, AreContexts, AreLater, IsDifferenceAmong, OnlyLosesAt, OnlyLoses, own_seen, differences_of}
 use Rattle.jc_effects.proofs.PartsAlongLemmas.{lost_place, below_longer, longer_below}
 use Rattle.jc_effects.proofs.PartsLossesLemmas.{PassedBack, none_new, loses_below, passed_none, passed_one, passed_all, lent_last, emptied}
 use Rattle.jc_effects.proofs.PartsReadLemmas.{IsNew, new_inside, seen_here, smaller_below}
@@ -20,8 +20,8 @@ child_below-returns-in_default-clause-difference g t c =
     let before = g.S.TreeStore.tree c.args.change.now.old.now in
     let at = c.args.at.now.items in
     let tagged = c.args.tagged in
-    let none = subst (IsNamed (g.S.TreeStore.names c.args.change.now.old.now) before (at ++ tagged ∷ [])) c.in_default.is
-    (subst (λ (p : List Tagged). IsNamed (g.S.TreeStore.names c.args.change.now.old.now) before (p ++ tagged ∷ []) c.contexts_below-inside.result.old) c.as_slice.ensures.value c.contexts_below-inside.ensures.old) in
+    let none = subst (IsNameOf (g.S.TreeStore.names c.args.change.now.old.now) before (at ++ tagged ∷ [])) c.in_default.is
+    (subst (λ (p : List Tagged). IsNameOf (g.S.TreeStore.names c.args.change.now.old.now) before (p ++ tagged ∷ []) c.contexts_below-inside.result.old) c.as_slice.ensures.value c.contexts_below-inside.ensures.old) in
     none_new _ _ c.requires.losses (λ P. subst (λ z. IsNew (seen P z)) (seen_append at tagged before.now) (new_inside P (at ++ tagged ∷ []) before.now none))
 
 pub child_below-places_below-requires : goal.child_below-places_below-requires
@@ -36,7 +36,7 @@ child_below-places_below-requires g t c κs within =
     let pushed : c.push.new.self.items ≡ at ++ tagged ∷ [] = c.in_ok-push.ensures.items in
     let named : AreContexts names others before after (at ++ tagged ∷ []) inside =
     subst (λ (p : List Tagged). AreContexts names others before after (p ++ tagged ∷ []) inside) c.as_slice.ensures.value c.contexts_below-inside.ensures in
-    let there = subst (IsNamed names before (at ++ tagged ∷ [])) c.in-Some.is named.old in
+    let there = subst (IsNameOf names before (at ++ tagged ∷ [])) c.in-Some.is named.old in
     let small : nested (here (at ++ tagged ∷ []) before) < nested (here at before) = smaller_below at tagged before there.0 in
     let smaller : nested (here c.push.new.self.items before) < nested (here at before) = rw pushed small in
     let contexts : AreContexts names others before after c.push.new.self.items inside = subst (λ (p : List Tagged). AreContexts names others before after p inside) (sym pushed) named in
@@ -118,6 +118,6 @@ places_below-returns-clause-difference g t c =
     let all = keys_lent c.in_ok-keys.keys.items in
     let none : c.loop-lent.keys.items ≡ [] = emptied c.loop-lent.keys.items c.pop.new.self.items c.pop.result c.in_default.is c.pop.ensures.items (λ h. c.pop.ensures.variant.1 (omega (arith, h, c.loop-lent.keys.ok.0))) in
     let passed = subst (λ (ks : List Key). PassedBack all ks (seen at old) (seen at new) (differences_of c.loop-lent.effects)) (ap keys_lent none) c.loop-lent.invariant.1 in
-    let named = subst (IsNamed (g.S.TreeStore.names c.args.change.now.old.now) before at) c.requires.named c.requires.contexts.old in
+    let named = subst (IsNameOf (g.S.TreeStore.names c.args.change.now.old.now) before at) c.requires.named c.requires.contexts.old in
     let keys : AllByRecursion (Contains all) (all_keys (here at before)) = subst (λ (p : List Tagged). AllByRecursion (Contains all) (all_keys (here p before))) c.as_slice.ensures.value c.in_ok-keys.ensures.all in
     passed_all all (seen at old) (seen at new) (differences_of c.loop-lent.effects) (subst (λ z. AllByRecursion (Contains all) (all_keys z)) (sym (seen_here at before named.0)) keys) c.requires.losses passed

@@ -5,7 +5,7 @@ use Rattle.jc_view.proofs.TokensLemmas.{gains_one}
 use Rattle.jc_effects.specs.declared.effects.Effects.{Effects}
 use Rattle.jc_effects.specs.Difference.{Differences}
 use Rattle.jc_effects.specs.EffectsJson.{some_items, place_items}
-use Rattle.jc_effects.specs.Parts.{own_seen, differences_of, labelled_tokens, first_tokens}
+use Rattle.jc_effects.specs.Parts.{own_seen, differences_of, labelled_tokens, first_place_tokens}
 use Rattle.jc_effects.proofs.PartsTokensLemmas.{some_written, array_written, places_none, place_written}
 use Rattle.jc_effects.proofs.writing.+places.Goals as goal
 
@@ -27,6 +27,6 @@ write_first-returns t c =
     let maps : Gains c.write_middle.new.out c.write_inside-2.new.out (labelled_tokens (some_items (codes "map") (place_items names (differences_of c.in-Place.map.value)))) =
     subst (λ (x : Effects). Gains c.write_middle.new.out c.write_inside-2.new.out (labelled_tokens (some_items (codes "map") (place_items names (differences_of x))))) c.deref-2.ensures c.in_ok-write_inside-2.ensures in
     on_ok_weaker c.end_object.result
-    (λ e. subst (λ (x : Differences). Gains c.args.out.now c.end_object.new.self (first_tokens names x)) (sym (ap differences_of c.in-Place.is))
+    (λ e. subst (λ (x : Differences). Gains c.args.out.now c.end_object.new.self (first_place_tokens names x)) (sym (ap differences_of c.in-Place.is))
     (place_written _ _ _ _ _ _ _ _ names k (own_seen k c.in-Place.own) (differences_of c.in-Place.map.value) (differences_of c.in-Place.list.value) (differences_of c.in-Place.field-4.value) (gains_one _ _ _ _ _ c.in_ok-begin_object.was c.begin_object.ensures) c.in_ok-write_front.ensures lists (c.in_ok-write_middle.ensures k) maps (c.in_ok-write_back.ensures k) (record { before = c.end_object.ensures.room.0; tokens = e })))
     c.end_object.ensures.ok

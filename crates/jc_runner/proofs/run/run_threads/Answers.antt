@@ -13,7 +13,7 @@ use Rattle.jc_lock.proofs.NumbersLemmas.{each_once_in_order}
 use Rattle.jc_scenario.specs.Views.{scenario_view}
 use Rattle.jc_runner.specs.declared.worker.Worked.{Worked}
 use Rattle.jc_runner.specs.Benches.{IsPassAt, IsNewAt, bench_start, bench_passes}
-use Rattle.jc_runner.specs.Legal.{own_events}
+use Rattle.jc_choice.specs.Legal.{own_events}
 use Rattle.jc_runner.specs.WorkerResult.{HaveWorked}
 use Rattle.jc_runner.proofs.ReportsLemmas.{numbered, reported, all_mapped, mapped_all, map_twice}
 use Rattle.jc_runner.proofs.run.run_threads.Goals as goal

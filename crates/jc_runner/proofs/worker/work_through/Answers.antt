@@ -2,17 +2,18 @@ use Rattle.std.proofs.Common.{arith, ◌≡◌, ◌<◌, ◌+◌, ◌∷◌, [],
 use Rattle.jc_lock.specs.Shows.{pass_number, pass_left, pass_origin, pass_seen, pass_mine, turn_value, turn_mine, turn_left}
 use Rattle.jc_scenario.specs.Views.{scenario_view}
 use Rattle.jc_runner.specs.Benches.{bench_start}
-use Rattle.jc_runner.specs.Phases.{last_event_of, phase_after}
-use Rattle.jc_runner.specs.Chosen.{choice}
-use Rattle.jc_runner.specs.Legal.{IsLegal, own_events, AllChosen}
+use Rattle.jc_choice.specs.Phases.{last_event_of, phase_after}
+use Rattle.jc_choice.specs.Chosen.{choice}
+use Rattle.jc_choice.specs.Legal.{IsLegal, own_events, AllChosen}
 use Rattle.jc_runner.specs.Asked.{Asks, questions_of}
 use Rattle.jc_runner.specs.Answers.{IsStepAnswered, seen_after}
 use Rattle.jc_runner.specs.declared.worker.Worked.{Worked}
-use Rattle.jc_runner.specs.declared.worker.End.TheVariants as N
+use Rattle.jc_choice.specs.declared.end.End.TheVariants as N
 use Rattle.jc_runner.specs.WorkerResult.{IsWorkerResult}
-use Rattle.jc_runner.proofs.LegalGrowsLemmas.{chosen_none, chosen_more}
-use Rattle.jc_runner.proofs.ChosenLemmas.{choice_is}
-use Rattle.jc_runner.proofs.WorkerResultLemmas.{same_start, in_hand, still_chosen, chosen_now, is_next, is_finished, goes_on, ends_by, ended}
+use Rattle.jc_choice.proofs.LegalGrowsLemmas.{chosen_none, chosen_more}
+use Rattle.jc_choice.proofs.ChosenLemmas.{choice_is}
+use Rattle.jc_choice.proofs.ChosenNowLemmas.{chosen_now}
+use Rattle.jc_runner.proofs.WorkerResultLemmas.{same_start, in_hand, still_chosen, is_next, is_finished, goes_on, ends_by, ended}
 use Rattle.jc_runner.proofs.AskedLemmas.{asks_none, asks_next}
 use Rattle.jc_runner.proofs.worker.work_through.Goals as goal
 

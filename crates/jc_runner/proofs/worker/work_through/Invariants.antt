@@ -1,8 +1,8 @@
 use Rattle.std.proofs.Common.{◌≡◌, ◌+◌, length, Some}
 use Rattle.jc_lock.specs.Shows.{pass_number, pass_left, pass_origin, pass_seen, pass_mine}
 use Rattle.jc_runner.specs.Benches.{IsPassAt, bench_start}
-use Rattle.jc_runner.specs.Phases.{last_event_of, phase_after}
-use Rattle.jc_runner.specs.Legal.{own_events, AllChosen}
+use Rattle.jc_choice.specs.Phases.{last_event_of, phase_after}
+use Rattle.jc_choice.specs.Legal.{own_events, AllChosen}
 use Rattle.jc_runner.specs.Asked.{Asks, questions_of}
 use Rattle.jc_runner.proofs.worker.work_through.Given as goal
 

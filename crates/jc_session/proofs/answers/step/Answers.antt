@@ -1,6 +1,6 @@
 use Rattle.std.proofs.Common.{◌+◌, length, string_bytes}
 use Rattle.std.proofs.lemmas.Result.{IfOk-weaker}
-use Rattle.jc_debug.specs.declared.fault.StepFault.TheVariants as SF
+use Rattle.jc_debug.specs.declared.fault.DebugStepFault.TheVariants as SF
 use Rattle.jc_session.proofs.AnswerOfLemmas.{ok_not_past, halted_named, reply_step, step_past, step_halted, step_stuck}
 use Rattle.jc_session.proofs.answers.step.Goals as goal
 

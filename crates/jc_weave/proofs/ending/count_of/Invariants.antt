@@ -1,5 +1,5 @@
 use Rattle.std.proofs.Common.{◌≡◌, ◌≤◌, ◌+◌, length}
-use Rattle.jc_runner.specs.Legal.{own_events}
+use Rattle.jc_choice.specs.Legal.{own_events}
 use Rattle.jc_weave.proofs.ending.count_of.Given as goal
 
 abbrev pub invariant-loop-event : goal.invariant-loop-event

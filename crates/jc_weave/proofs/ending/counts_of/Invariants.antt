@@ -1,5 +1,5 @@
 use Rattle.std.proofs.Common.{◌≡◌, ◌++◌, length, map}
-use Rattle.jc_runner.specs.Legal.{own_events}
+use Rattle.jc_choice.specs.Legal.{own_events}
 use Rattle.jc_weave.proofs.ending.counts_of.Given as goal
 
 abbrev pub invariant-loop-p : goal.invariant-loop-p

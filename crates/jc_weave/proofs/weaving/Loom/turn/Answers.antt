@@ -1,5 +1,5 @@
 use Rattle.std.proofs.Common.{arith, ◌≡◌, ◌∙◌, ap, sym, refl, length}
-use Rattle.jc_runner.specs.Chosen.{choice}
+use Rattle.jc_choice.specs.Chosen.{choice}
 use Rattle.jc_weave.specs.Looms.{drawn_of, pool, phase_at}
 use Rattle.jc_weave.proofs.LoomsLemmas.{fewer}
 use Rattle.jc_weave.proofs.WeavingLemmas.{made_turn, finished_turn, stuck_turn}
@@ -32,7 +32,7 @@ returns-in_ok-push-in-Some-clause-turn c =
     let at : p ≡ drawn_of (pool N old.phases.items old.live.items) old.rng = c.in_ok-p.ensures.drawn ∙ (λ i. drawn_of (pool N (c.deref.ensures.value i) (c.deref-2.ensures.value i)) old.rng) in
     let chosen : c.choose.result ≡ choice N p (phase_at old.phases.items p) = c.choose.ensures ∙ ap (choice N p) (c.phase_at.ensures ∙ ap (λ l. phase_at l p) c.deref-3.ensures.value) in
     let h = c.in_ok-step_or_stick-in-Some.ensures.made c.if-branch.true in
-    made_turn _ _ _ _ _ _ _ _ _ _ _ _ _ _ p c.in-Some.event c.in-Some.next h.0.0.rows c.requires.room c.requires.some at c.in_ok-p.ensures.moved (sym chosen ∙ c.in-Some.is) h.0.1.step
+    made_turn _ _ _ _ _ _ _ _ _ _ _ _ _ _ p c.in-Some.event c.in-Some.next h.0.0.rows c.requires.room c.requires.some at c.in_ok-p.ensures.moved (sym chosen ∙ c.in-Some.is) h.0.1
     c.set_phase.ensures refl (omega (arith, c.requires.room)) c.in_ok-push-in-Some.ensures.items (ap (λ v. v.items) h.1)
 
 pub returns-in_ok-leave-in-Some-clause-turn : goal.returns-in_ok-leave-in-Some-clause-turn

@@ -1,0 +1,4 @@
+pub mod Phases
+pub mod Chosen
+pub mod Legal
+pub mod Laws

@@ -1,0 +1,8 @@
+mod LookAheadLemmas
+mod FaultsDecideLemmas
+mod FaultsLemmas
+mod TreeReaderLemmas
+mod LookAheadListsLemmas
+mod ScenarioGrammarLemmas
+mod ExamplesLemmas
+mod LimitsLemmas

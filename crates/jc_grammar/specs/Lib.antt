@@ -1,0 +1,10 @@
+pub mod Classes
+pub mod Guards
+pub mod Grammar
+pub mod LookAhead
+pub mod TreeReader
+pub mod Faults
+pub mod Laws
+pub mod ScenarioGrammar
+pub mod Examples
+pub mod Limits

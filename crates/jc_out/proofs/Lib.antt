@@ -1,0 +1,3 @@
+mod WrittenLemmas
+pub mod OutLemmas
+mod PiecesLemmas

@@ -1,0 +1,4 @@
+pub mod Written
+pub mod Out
+pub mod Pieces
+pub mod Laws

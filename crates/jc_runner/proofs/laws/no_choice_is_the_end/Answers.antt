@@ -1,5 +1,0 @@
-use Rattle.jc_runner.proofs.ChosenLemmas.{none_chosen}
-use Rattle.jc_runner.proofs.laws.no_choice_is_the_end.Goals as goal
-
-pub returns : goal.returns
-returns c = none_chosen

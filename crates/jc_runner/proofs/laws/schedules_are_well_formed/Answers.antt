@@ -1,5 +1,0 @@
-use Rattle.jc_runner.proofs.LegalLemmas.{well_formed_with}
-use Rattle.jc_runner.proofs.laws.schedules_are_well_formed.Goals as goal
-
-pub returns : goal.returns
-returns c = well_formed_with
