@@ -20,7 +20,6 @@ mod version;
 
 pub use id::Id;
 pub use id_set::{IdSet, insert_id};
-pub use jc_io::{Failed, FromRead, ReadFault, Sink, Source, ToWrite, read_up_to, write_all};
 pub use key::{Key, Next, Tagged, compare_ids, compare_keys};
 pub use names::Names;
 pub use operation::{Cursor, Event, Mutation, Op};
