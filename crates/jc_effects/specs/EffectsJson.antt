@@ -1,5 +1,5 @@
 -- What differs between two trees, as JSON. The list of names has the name of each replica at its number.
-use Rattle.std.specs.Prelude.{ℕ, List, [], ◌∷◌, ◌++◌, map, codes, Bool, true, false, Option, Some, None}
+use Rattle.std.specs.Prelude.{ℕ, List, [], ◌∷◌, ◌++◌, map, codes, Bool, Option, Some, None}
 use Rattle.json.specs.Json.{Json, null, boolean, string, array, object, Items, no_items, item, Members, no_members, member}
 use Rattle.jc_rules.specs.declared.id.Id.{Id}
 use Rattle.jc_rules.specs.declared.key.Key.{Key}
@@ -8,9 +8,9 @@ use Rattle.jc_rules.specs.declared.key.Next.TheVariants.{Tail, Elem as To}
 use Rattle.jc_rules.specs.declared.key.Tagged.{Tagged}
 use Rattle.jc_rules.specs.declared.key.Tagged.TheVariants.{MapT, ListT, RegT}
 use Rattle.jc_rules.specs.declared.value.Value.{Value}
-use Rattle.jc_rules.specs.declared.value.Value.TheVariants as V
 use Rattle.jc_rules.specs.Context.{Register}
 use Rattle.jc_json.specs.Json.{id_text, key_text}
+use Rattle.jc_json.specs.Values.{dumped_value}
 use Rattle.jc_effects.specs.Difference.{OwnDifference, Differences, no_difference, difference}
 
 -- a value under a name
@@ -31,16 +31,6 @@ abbrev pub some_items : List ℕ → Items → List Labelled
 some_items name no_items = []
 some_items name (item j js) = (name, array (item j js)) ∷ []
 
--- a value as in dumps: a number's text is under the name `n`
-abbrev pub plain_value : Value → Json
-plain_value (V.Number s) = object (member (codes "n") (string s) no_members)
-plain_value (V.Str s) = string s
-plain_value V.True = boolean true
-plain_value V.False = boolean false
-plain_value V.Null = null
-plain_value V.EmptyMap = object no_members
-plain_value V.EmptyList = array no_items
-
 abbrev pub id_json : List (List ℕ) → Id → Json
 id_json names i = string (id_text names i)
 
@@ -48,7 +38,7 @@ abbrev pub some_ids : List (List ℕ) → List ℕ → List Id → List Labelled
 some_ids names name ids = some_items name (as_items (map (id_json names) ids))
 
 abbrev pub id_and_value : List (List ℕ) → Id × Value → Json
-id_and_value names e = array (item (id_json names e.0) (item (plain_value e.1) no_items))
+id_and_value names e = array (item (id_json names e.0) (item (dumped_value e.1) no_items))
 
 abbrev pub some_pairs : List (List ℕ) → List ℕ → Register → List Labelled
 some_pairs names name r = some_items name (as_items (map (id_and_value names) r))

@@ -5,82 +5,19 @@ ghost use Rattle.json.specs.Json.{array};
 ghost use Rattle.json.specs.Token as T;
 ghost use Rattle.json.specs.Tree.{json_tokens};
 ghost use Rattle.jc_rules.specs.declared.key.Key.{Key as AnyKey};
-ghost use Rattle.jc_view.specs.Parts.{Gains};
+ghost use Rattle.jc_json.specs.Gains.{Gains};
 ghost use Rattle.jc_effects.specs.Parts.{own_seen, differences_of, tags_made, labelled_tokens, item_tokens, first_place_tokens, front_members, middle_members, back_members};
-ghost use Rattle.jc_effects.specs.EffectsJson.{as_items, plain_value, id_json, some_ids, some_pairs, some_items, some_tags, link_json, some_links, if_shown, id_and_value, place_items, effects_json};
+ghost use Rattle.jc_effects.specs.EffectsJson.{as_items, id_json, some_ids, some_pairs, some_items, some_tags, link_json, some_links, if_shown, id_and_value, place_items, effects_json};
 
 use crate::effects::Effects;
 use crate::own::{OwnEffects, Tags};
-use jc_json::{id_text, key_text};
+use jc_json::{key_text, write_id, write_ids, write_value};
 use jc_rules::{Id, Key, Next, Text, Value};
 use json::Writer;
 use std::alloc::{AllocError, Global};
 
-/// Writes the text of a number, under the name `n`.
-fn write_number(text: &str, out: &mut Writer) -> Result<(), AllocError>
-    ensures { OnOk result (Gains out.old out.new (json_tokens (plain_value (Value.Number text.now)))) }
-{
-    out.begin_object()?;
-    out.key("n")?;
-    out.string(text)?;
-    out.end_object()
-}
-
-fn write_empty_map(out: &mut Writer) -> Result<(), AllocError>
-    ensures { OnOk result (Gains out.old out.new (json_tokens (plain_value Value.EmptyMap))) }
-{
-    out.begin_object()?;
-    out.end_object()
-}
-
-fn write_empty_list(out: &mut Writer) -> Result<(), AllocError>
-    ensures { OnOk result (Gains out.old out.new (json_tokens (plain_value Value.EmptyList))) }
-{
-    out.begin_array()?;
-    out.end_array()
-}
-
-/// Writes a value as dumps have it.
-fn write_value(value: &Value, out: &mut Writer) -> Result<(), AllocError>
-    ensures { OnOk result (Gains out.old out.new (json_tokens (plain_value value.now))) }
-{
-    match value {
-        Value::Number(text) => write_number(text.as_str(), out),
-        Value::Str(text) => out.string(text.as_str()),
-        Value::True => out.boolean(true),
-        Value::False => out.boolean(false),
-        Value::Null => out.null(),
-        Value::EmptyMap => write_empty_map(out),
-        Value::EmptyList => write_empty_list(out),
-    }
-}
-
-/// Writes the text of an identifier.
-fn write_id(alloc: Global, names: &[Text], id: Id, out: &mut Writer) -> Result<(), AllocError>
-    ensures { OnOk result (Gains out.old out.new (json_tokens (id_json names.now id))) }
-{
-    let text = id_text(alloc, names, id)?;
-    out.string(text.as_str())
-}
-
-/// Writes a list of identifiers.
-fn write_id_list(
-    alloc: Global,
-    names: &[Text],
-    ids: &[Id],
-    out: &mut Writer,
-) -> Result<(), AllocError>
-    ensures { OnOk result (Gains out.old out.new (json_tokens (array (as_items (map (id_json names.now) ids.now))))) }
-{
-    out.begin_array()?;
-    for id in ids {
-        write_id(alloc, names, *id, out)?;
-    }
-    out.end_array()
-}
-
 /// Writes a list of identifiers as a member, unless it is empty.
-fn write_ids(
+fn write_some_ids(
     alloc: Global,
     names: &[Text],
     name: &str,
@@ -93,7 +30,7 @@ fn write_ids(
         return Ok(());
     }
     out.key(name)?;
-    write_id_list(alloc, names, ids, out)
+    write_ids(alloc, names, ids, out)
 }
 
 /// Writes a pair: the identifier's text, then the value.
@@ -225,7 +162,7 @@ fn write_front(
     ensures { OnOk result (Gains out.old out.new
         (labelled_tokens (front_members names.now key.now (own_seen key.now own.now)))) }
 {
-    write_ids(alloc, names, "gained", own.gained.as_slice(), out)?;
+    write_some_ids(alloc, names, "gained", own.gained.as_slice(), out)?;
     let text = key_text(alloc, names, key)?;
     out.key("key")?;
     out.string(text.as_str())
@@ -241,7 +178,7 @@ fn write_middle(
     ensures { (k : AnyKey) → OnOk result (Gains out.old out.new
         (labelled_tokens (middle_members names.now (own_seen k own.now)))) }
 {
-    write_ids(alloc, names, "lost", own.lost.as_slice(), out)?;
+    write_some_ids(alloc, names, "lost", own.lost.as_slice(), out)?;
     write_made(own.made, out)
 }
 

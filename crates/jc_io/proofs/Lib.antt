@@ -1,2 +1,3 @@
 pub mod StreamsReadLemmas
 pub mod StreamsWriteLemmas
+pub mod WrittenLemmas

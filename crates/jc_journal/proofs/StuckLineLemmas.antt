@@ -31,7 +31,7 @@ use Rattle.jc_network.proofs.AppliedIdsLemmas.{kept_ids}
 use Rattle.jc_network.proofs.MembersLemmas.{none_in, first_in, later_in, in_cons, op_in}
 use Rattle.jc_network.proofs.RunInvariantStartLemmas.{held_made, sound}
 use Rattle.jc_meaning.proofs.ComparisonLemmas.{held_has, run_well, stands_held}
-use Rattle.jc_journal.specs.Operation.{string_items}
+use Rattle.jc_json.specs.Values.{string_items}
 use Rattle.jc_journal.specs.StuckLine.{offering_from, deps_of, missing_ids}
 use Rattle.jc_journal.specs.Parts.{name_tokens, made_ids, IsMissingOf}
 use Rattle.jc_journal.proofs.BeforeLemmas.{identifiers-append}

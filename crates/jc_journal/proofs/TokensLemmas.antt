@@ -7,8 +7,8 @@ use Rattle.json.specs.Token.{Token}
 use Rattle.json.specs.Token as T
 use Rattle.json.specs.Tree.{json_tokens, members_tokens}
 use Rattle.json.specs.Written.{Written}
-use Rattle.jc_view.specs.Parts.{Gains}
-use Rattle.jc_view.proofs.TokensLemmas.{gains_then, gains_between}
+use Rattle.jc_json.specs.Gains.{Gains}
+use Rattle.jc_json.proofs.GainsLemmas.{gains_then, gains_between}
 use Rattle.jc_journal.specs.Operation.{NamedJson, json_members, json_object}
 use Rattle.jc_journal.specs.EventLine.{members_line}
 use Rattle.jc_journal.specs.Parts.{member_tokens}

@@ -23,7 +23,8 @@ use Rattle.jc_replica.specs.Operations.{identifiers}
 use Rattle.jc_replica.specs.Received.{is_new}
 use Rattle.jc_effects.specs.Difference.{Differences, IsDifference}
 use Rattle.jc_effects.specs.EffectsJson.{effects_json}
-use Rattle.jc_journal.specs.Operation.{NamedJson, json_object, ids_json, op_json}
+use Rattle.jc_json.specs.Values.{ids_json}
+use Rattle.jc_journal.specs.Operation.{NamedJson, json_object, op_json}
 
 -- ---- what every event has
 

@@ -1,7 +1,7 @@
 -- An operation in full, as JSON: its identifier, the version vector of those that it depends on, its cursor and its
 -- mutation. The contracts of operation.rt cite it. The list of names has the name of each replica at its number.
-use Rattle.std.specs.Prelude.{ℕ, suc, List, [], ◌∷◌, ◌++◌, ◌==◌, cond, map, codes, decimal, true, false}
-use Rattle.json.specs.Json.{Json, null, boolean, number, string, array, object, Items, no_items, item, Members, no_members, member}
+use Rattle.std.specs.Prelude.{ℕ, suc, List, [], ◌∷◌, ◌++◌, ◌==◌, cond, codes, decimal}
+use Rattle.json.specs.Json.{Json, number, string, object, Members, no_members, member}
 use Rattle.jc_rules.specs.declared.id.Id.{Id}
 use Rattle.jc_rules.specs.declared.key.Key.{Key}
 use Rattle.jc_rules.specs.declared.key.Tagged.{Tagged}
@@ -9,12 +9,11 @@ use Rattle.jc_rules.specs.declared.operation.Cursor.{Cursor}
 use Rattle.jc_rules.specs.declared.operation.Mutation.{Mutation}
 use Rattle.jc_rules.specs.declared.operation.Mutation.TheVariants.{Assign, Insert, Delete}
 use Rattle.jc_rules.specs.declared.operation.Op.{Op}
-use Rattle.jc_rules.specs.declared.value.Value.{Value}
-use Rattle.jc_rules.specs.declared.value.Value.TheVariants as V
 use Rattle.jc_rules.specs.VersionVectors.{greatest_of}
 use Rattle.jc_json.specs.Json.{id_text, key_text, tagged_text}
+use Rattle.jc_json.specs.Values.{dumped_value, strings_json}
 
--- ---- objects and lists of texts
+-- ---- objects
 
 -- a member of an object: its name and its value
 abbrev pub NamedJson : Type 0
@@ -28,27 +27,7 @@ json_members (e ∷ es) = member e.0 e.1 (json_members es)
 abbrev pub json_object : List NamedJson → Json
 json_object es = object (json_members es)
 
-abbrev pub string_items : List (List ℕ) → Items
-string_items [] = no_items
-string_items (s ∷ ss) = item (string s) (string_items ss)
-
-abbrev pub strings_json : List (List ℕ) → Json
-strings_json ss = array (string_items ss)
-
-abbrev pub ids_json : List (List ℕ) → List Id → Json
-ids_json names ids = strings_json (map (λ i. id_text names i) ids)
-
 -- ---- operations
-
--- a value as in dumps: a number's text is under the name `n`
-abbrev pub dumped_value : Value → Json
-dumped_value (V.Number s) = json_object ((codes "n", string s) ∷ [])
-dumped_value (V.Str s) = string s
-dumped_value V.True = boolean true
-dumped_value V.False = boolean false
-dumped_value V.Null = null
-dumped_value V.EmptyMap = object no_members
-dumped_value V.EmptyList = array no_items
 
 -- a cursor as in dumps: the texts of its path, then that of its last key
 abbrev pub cursor_texts : List (List ℕ) → List Tagged → Key → List (List ℕ)

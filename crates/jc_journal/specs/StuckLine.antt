@@ -17,7 +17,8 @@ use Rattle.jc_rules.specs.Table.{op_of}
 use Rattle.jc_json.specs.Json.{tagged_text}
 use Rattle.jc_replica.specs.Operations.{identifiers}
 use Rattle.jc_network.specs.Steps.{key_of_event}
-use Rattle.jc_journal.specs.Operation.{NamedJson, ids_json, strings_json}
+use Rattle.jc_json.specs.Values.{ids_json, strings_json}
+use Rattle.jc_journal.specs.Operation.{NamedJson}
 use Rattle.jc_journal.specs.EventLine.{members_line, given_member, event_member, kind_member, number_member, replica_member}
 
 -- the tagged key of the node that isn't there, which 25 has

@@ -8,7 +8,7 @@ ghost use Rattle.jc_rules.specs.declared.rule.Rule.{Rule as AnyRule};
 ghost use Rattle.jc_rules.specs.RuleNames.{rule_name};
 ghost use Rattle.jc_rules.specs.Step.{Network as AnyNetwork, StepIn};
 ghost use Rattle.jc_printer.specs.Canon.{AreNamed};
-ghost use Rattle.jc_view.specs.Parts.{Gains};
+ghost use Rattle.jc_json.specs.Gains.{Gains};
 ghost use Rattle.jc_journal.specs.Before.{IsNoted};
 ghost use Rattle.jc_journal.specs.EventLine.{sender_member, new_member, op_member, effects_member, rule_items, rules_member, members_line, event_line};
 ghost use Rattle.jc_journal.specs.Parts.{member_tokens, rows_of, differences_at, noted_command, noted_new, noted_op, noted_members};
@@ -19,8 +19,9 @@ use crate::members::{
     begin_line, end_line, write_event, write_given, write_kind, write_number, write_replica,
     write_text,
 };
-use crate::operation::{write_ids, write_ids_of, write_op};
+use crate::operation::{write_ids_of, write_op};
 use jc_effects::{Effects, write_effects};
+use jc_json::write_ids;
 use jc_network::Net;
 use jc_replica::Replica;
 use jc_rules::{Event, Op, Rule, Text, Trace, name_at};

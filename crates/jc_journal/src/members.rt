@@ -6,7 +6,7 @@ ghost use Rattle.json.specs.Json.{number, string};
 ghost use Rattle.json.specs.Print.{print};
 ghost use Rattle.json.specs.Token as T;
 ghost use Rattle.jc_printer.specs.Canon.{AreNamed};
-ghost use Rattle.jc_view.specs.Parts.{Gains};
+ghost use Rattle.jc_json.specs.Gains.{Gains};
 ghost use Rattle.jc_journal.specs.EventLine.{event_kind, event_member, given_member, kind_member, number_member, replica_member};
 ghost use Rattle.jc_journal.specs.Parts.{member_tokens};
 

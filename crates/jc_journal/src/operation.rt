@@ -1,4 +1,4 @@
-//! Writes an operation in full, and lists of identifiers. `event` and `stuck` call it.
+//! Writes an operation in full, and the identifiers of operations. `event` and `stuck` call it.
 
 ghost use Rattle.std.specs.Prelude.{◌≡◌, ◌≤◌, ◌∷◌, [], OnOk, length, codes};
 ghost use Rattle.json.specs.Json.{string};
@@ -7,78 +7,16 @@ ghost use Rattle.json.specs.Tree.{json_tokens};
 ghost use Rattle.jc_rules.specs.declared.limits.TheConstants.{MAX_REPLICAS};
 ghost use Rattle.jc_json.specs.Json.{id_text, key_text, tagged_text};
 ghost use Rattle.jc_replica.specs.Operations.{identifiers};
-ghost use Rattle.jc_view.specs.Parts.{Gains};
-ghost use Rattle.jc_journal.specs.Operation.{json_object, ids_json, dumped_value, cursor_json, counter_member, counter_members, vector_json, mutation_name, mutation_value, op_json};
+ghost use Rattle.jc_json.specs.Gains.{Gains};
+ghost use Rattle.jc_json.specs.Values.{ids_json};
+ghost use Rattle.jc_journal.specs.Operation.{json_object, cursor_json, counter_member, counter_members, vector_json, mutation_name, mutation_value, op_json};
 ghost use Rattle.jc_journal.specs.Parts.{member_tokens};
 
 use crate::members::write_text;
-use jc_json::{id_text, key_text, tagged_text};
-use jc_rules::{Cursor, Id, IdSet, Key, Mutation, Op, Tagged, Text, Value, name_at};
+use jc_json::{id_text, key_text, tagged_text, write_id, write_value};
+use jc_rules::{Cursor, Id, IdSet, Key, Mutation, Op, Tagged, Text, name_at};
 use json::Writer;
 use std::alloc::{AllocError, Global};
-
-/// Writes the text of a number, under the name `n`.
-fn write_number(text: &str, out: &mut Writer) -> Result<(), AllocError>
-    ensures { OnOk result (Gains out.old out.new (json_tokens (json_object ((codes "n", string text.now) ∷ [])))) }
-{
-    out.begin_object()?;
-    out.key("n")?;
-    out.string(text)?;
-    out.end_object()
-}
-
-fn write_empty_map(out: &mut Writer) -> Result<(), AllocError>
-    ensures { OnOk result (Gains out.old out.new (json_tokens (dumped_value Value.EmptyMap))) }
-{
-    out.begin_object()?;
-    out.end_object()
-}
-
-fn write_empty_list(out: &mut Writer) -> Result<(), AllocError>
-    ensures { OnOk result (Gains out.old out.new (json_tokens (dumped_value Value.EmptyList))) }
-{
-    out.begin_array()?;
-    out.end_array()
-}
-
-/// Writes a value as dumps have it.
-fn write_value(value: &Value, out: &mut Writer) -> Result<(), AllocError>
-    ensures { OnOk result (Gains out.old out.new (json_tokens (dumped_value value.now))) }
-{
-    match value {
-        Value::Number(text) => write_number(text.as_str(), out),
-        Value::Str(text) => out.string(text.as_str()),
-        Value::True => out.boolean(true),
-        Value::False => out.boolean(false),
-        Value::Null => out.null(),
-        Value::EmptyMap => write_empty_map(out),
-        Value::EmptyList => write_empty_list(out),
-    }
-}
-
-/// Writes the text of an identifier.
-fn write_id(alloc: Global, names: &[Text], id: Id, out: &mut Writer) -> Result<(), AllocError>
-    ensures { OnOk result (Gains out.old out.new (T.string (id_text names.now id) ∷ [])) }
-{
-    let text = id_text(alloc, names, id)?;
-    out.string(text.as_str())
-}
-
-/// Writes a list of identifiers, in its order.
-pub(crate) fn write_ids(
-    alloc: Global,
-    names: &[Text],
-    ids: &[Id],
-    out: &mut Writer,
-) -> Result<(), AllocError>
-    ensures { OnOk result (Gains out.old out.new (json_tokens (ids_json names.now ids.now))) }
-{
-    out.begin_array()?;
-    for id in ids {
-        write_id(alloc, names, *id, out)?;
-    }
-    out.end_array()
-}
 
 /// Writes the list of the operations' identifiers, in their order.
 pub(crate) fn write_ids_of(

@@ -10,8 +10,8 @@ ghost use Rattle.jc_rules.specs.State.{State};
 ghost use Rattle.jc_replica.specs.Operations.{identifiers};
 ghost use Rattle.jc_network.specs.Steps.{stuck_for};
 ghost use Rattle.jc_dump.specs.Lines.{IsNamedStuck};
-ghost use Rattle.jc_view.specs.Parts.{Gains};
-ghost use Rattle.jc_journal.specs.Operation.{strings_json};
+ghost use Rattle.jc_json.specs.Gains.{Gains};
+ghost use Rattle.jc_json.specs.Values.{strings_json};
 ghost use Rattle.jc_journal.specs.StuckLine.{wanted_id, key_member, offering_from, offered_member, missing_ids, missing_member, stuck_event_line};
 ghost use Rattle.jc_journal.specs.Parts.{member_tokens, name_tokens, IsMissingOf, told_members};
 
@@ -20,8 +20,7 @@ use crate::members::{
     begin_line, end_line, write_count, write_event, write_given, write_kind, write_number,
     write_replica, write_text,
 };
-use crate::operation::write_ids;
-use jc_json::tagged_text;
+use jc_json::{tagged_text, write_ids};
 use jc_network::{Net, Stuck};
 use jc_rules::{Event, Id, IdSet, Op, Refusal, Tagged, Text, insert_id, name_at};
 use json::Writer;

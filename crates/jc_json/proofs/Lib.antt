@@ -5,3 +5,4 @@ pub mod PartsTextsLemmas
 pub mod PartsMembersLemmas
 pub mod PartsKindsLemmas
 pub mod JsonFloatsLemmas
+pub mod GainsLemmas

@@ -1,2 +1,4 @@
 pub mod Json
 pub mod Parts
+pub mod Gains
+pub mod Values

@@ -1,3 +1,2 @@
-mod WrittenLemmas
 pub mod OutLemmas
 mod PiecesLemmas

@@ -1,9 +1,9 @@
 -- About Out: texts that an output was given one behind another, and what was written of them. What writes over outputs
 -- needs `adds_nothing`, `adds_both`, `adds_same` and `gave_held`.
 use Rattle.std.proofs.Common.{◌≡◌, ℕ, List, [], ◌++◌, Bool, true, false, refl, ap, sym, subst, ◌∙◌, append_assoc, append-nil}
-use Rattle.jc_out.specs.Written.{Stream, Wrote, WrotePart}
+use Rattle.jc_io.specs.Written.{Stream, Wrote, WrotePart}
 use Rattle.jc_out.specs.Out.{OutState, GaveBy, GaveText, AddsText}
-use Rattle.jc_out.proofs.WrittenLemmas.{wrote_nothing, wrote_both, part_behind, part_of_longer}
+use Rattle.jc_io.proofs.WrittenLemmas.{wrote_none, wrote_both, part_after, part_of_longer}
 
 -- ---- the composition
 
@@ -33,7 +33,7 @@ sent_more text more held first a b (sent, is, wrote) rest =
 -- A write of what is held, and of a text behind it, failed.
 cut_more : (text more held : List ℕ) (first a b : Stream) → GaveBy false text held first a → WrotePart (held ++ more) a b → WrotePart (text ++ more) first b
 cut_more text more held first a b (sent, is, wrote) part =
-    subst (λ l. WrotePart l first b) (sym (ap (λ l. l ++ more) is ∙ append_assoc sent held more)) (part_behind first a b sent (held ++ more) wrote part)
+    subst (λ l. WrotePart l first b) (sym (ap (λ l. l ++ more) is ∙ append_assoc sent held more)) (part_after first a b sent (held ++ more) wrote part)
 
 -- A text is held behind the others.
 held_more : (text more held : List ℕ) (first a : Stream) → GaveBy false text held first a → GaveBy false (text ++ more) (held ++ more) first a
@@ -69,7 +69,7 @@ hold_adds false text old held a sound is first before h = subst (λ l. GaveBy fa
 -- an output that isn't broken was given what it holds, since its sink is as it is
 held_by : (is_broken : Bool) (held : List ℕ) (now : Stream) → is_broken ≡ false → GaveBy is_broken held held now now
 held_by true held now sound = cc
-held_by false held now sound = ([], refl, wrote_nothing now)
+held_by false held now sound = ([], refl, wrote_none now now refl)
 
 pub gave_held : (o : OutState) → o.is_broken ≡ false → GaveText o.held o.stream o
 gave_held o sound = held_by o.is_broken o.held o.stream sound

@@ -1,9 +1,9 @@
 -- About Pieces: the first pieces, which an output was given, and its end.
 use Rattle.std.proofs.Common.{◌≡◌, ℕ, zero, suc, List, [], ◌∷◌, ◌++◌, Bool, true, false, take, drop, refl, ap, sym, subst, ◌∙◌, append_assoc, append-nil}
-use Rattle.jc_out.specs.Written.{Stream, WrotePart}
+use Rattle.jc_io.specs.Written.{Stream, WrotePart}
 use Rattle.jc_out.specs.Out.{OutState, GaveText, AddsText}
 use Rattle.jc_out.specs.Pieces.{pieces_text, EndsAfter, EndsBy}
-use Rattle.jc_out.proofs.WrittenLemmas.{part_of_longer}
+use Rattle.jc_io.proofs.WrittenLemmas.{part_of_longer}
 use Rattle.jc_out.proofs.OutLemmas.{gave_whole, gave_part}
 
 -- the first pieces, and then the others

@@ -1,4 +1,3 @@
-pub mod Written
 pub mod Out
 pub mod Pieces
 pub mod Laws

@@ -3,7 +3,7 @@ use Rattle.std.specs.Prelude.{◌≡◌, ℕ, List, ◌++◌, Bool, true, false}
 use Rattle.std.specs.Borrow.{GName}
 use Rattle.jc_io.specs.declared.io.Sink.{Ghosts as SinkGhosts}
 use Rattle.jc_out.specs.declared.output.Out.{Out}
-use Rattle.jc_out.specs.Written.{Stream, sink, Wrote, WrotePart}
+use Rattle.jc_io.specs.Written.{Stream, sink, Wrote, WrotePart}
 
 -- An output: the name of the reference through which it writes, what is known of the sink behind this, the bytes that
 -- are held for the sink, and whether a write failed.

@@ -1,6 +1,6 @@
 -- The pieces that a task has to write, and what was written of them: `Out::end` cites it.
 use Rattle.std.specs.Prelude.{ℕ, List, [], ◌∷◌, ◌++◌, Bool, true, false, take}
-use Rattle.jc_out.specs.Written.{Stream, Wrote, WrotePart}
+use Rattle.jc_io.specs.Written.{Stream, Wrote, WrotePart}
 use Rattle.jc_out.specs.Out.{OutState}
 
 -- the pieces, one behind another

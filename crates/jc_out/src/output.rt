@@ -4,7 +4,7 @@
 ghost use Rattle.std.specs.Prelude.{◌≡◌, ◌+◌, ℕ, List, [], true, false, not, take, OnOk, OnErr};
 ghost use Rattle.std.specs.Io.KnownBytes.{Keeps};
 ghost use Rattle.jc_io.specs.Streams.{StaysIfKnown, failures_of};
-ghost use Rattle.jc_out.specs.Written.{Stream, sink};
+ghost use Rattle.jc_io.specs.Written.{Stream, sink};
 ghost use Rattle.jc_out.specs.Out.{output, AddsText, GaveText};
 ghost use Rattle.jc_out.specs.Pieces.{pieces_text, EndsAfter};
 

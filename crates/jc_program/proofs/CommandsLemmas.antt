@@ -17,7 +17,7 @@ use Rattle.jc_program.specs.ViewText.{IsGivenShown, Ran}
 use Rattle.jc_program.specs.Runs.{Stuck, status_of}
 use Rattle.jc_program.specs.SessionRuns.{session_status, ShowsTo}
 use Rattle.jc_program.specs.declared.fault.WorkFault.TheVariants.{Memory}
-use Rattle.jc_session.specs.Written.{Stream}
+use Rattle.jc_io.specs.Written.{Stream}
 use Rattle.jc_program.proofs.JournalsLemmas.{all_led, first_stuck}
 use Rattle.jc_program.proofs.ViewOutputLemmas.{nothing_shown}
 use Rattle.jc_program.specs.WeaveRuns.{IsBySeed, HaveNoThreads}

@@ -4,8 +4,8 @@ use Rattle.std.proofs.lemmas.Option.{slice_get-get_or, same_Some}
 use Rattle.jc_rules.specs.ReplicaNames.{name_at}
 use Rattle.jc_rules.specs.State.{State, start}
 use Rattle.jc_view.specs.Visible.{view_line, views_from, views_text}
-use Rattle.jc_session.specs.Written.{Stream, Wrote, WrotePart}
-use Rattle.jc_session.proofs.WrittenLemmas.{wrote_both, part_after, part_of_longer}
+use Rattle.jc_io.specs.Written.{Stream, Wrote, WrotePart}
+use Rattle.jc_io.proofs.WrittenLemmas.{wrote_both, part_after, part_of_longer}
 
 next_views : (names : List (List ℕ)) (n p : ℕ) (network : List State) (A : State) → slice_get network p ≡ Some A → views_from n names (take (suc p) network) ≡ views_from n names (take p network) ++ view_line names (name_at names (n + p)) A
 next_views names n p [] A e = cc

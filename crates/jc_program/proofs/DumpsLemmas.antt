@@ -4,8 +4,8 @@ use Rattle.std.proofs.lemmas.Option.{slice_get-get_or}
 use Rattle.jc_rules.specs.ReplicaNames.{name_at}
 use Rattle.jc_rules.specs.State.{State, start}
 use Rattle.jc_dump.specs.Dump.{dump_line}
-use Rattle.jc_session.specs.Written.{Stream, Wrote, WrotePart}
-use Rattle.jc_session.proofs.WrittenLemmas.{wrote_both, part_after, part_of_longer}
+use Rattle.jc_io.specs.Written.{Stream, Wrote, WrotePart}
+use Rattle.jc_io.proofs.WrittenLemmas.{wrote_both, part_after, part_of_longer}
 use Rattle.jc_dump.specs.Texts.{dumps_from, dumps_text}
 use Rattle.jc_program.proofs.PlayResultLemmas.{dumps_more}
 

@@ -25,8 +25,8 @@ use Rattle.jc_journal.specs.declared.event.NumberedEvent.{NumberedEvent}
 use Rattle.jc_journal.specs.Before.{IsNoted}
 use Rattle.jc_journal.specs.EventLine.{AreEffects, event_line}
 use Rattle.jc_journal.specs.StuckLine.{stuck_event_line}
-use Rattle.jc_session.specs.Written.{Stream, Wrote, WrotePart, Written, WrittenInPart}
-use Rattle.jc_session.proofs.WrittenLemmas.{wrote_both, part_after}
+use Rattle.jc_io.specs.Written.{Stream, Wrote, WrotePart, Written, WrittenInPart}
+use Rattle.jc_io.proofs.WrittenLemmas.{wrote_both, part_after}
 use Rattle.jc_program.specs.declared.run.RunFault.{RunFault}
 use Rattle.jc_program.specs.declared.run.RunFault.TheVariants.{Write}
 use Rattle.jc_program.specs.JournalResult.{asked_by, IsBehind, CatchesUp, IsLineOf, OfStuckLine, JournalsNext, IsNextLine, JournalsAll, AreLinesDue}

@@ -8,8 +8,8 @@ use Rattle.jc_rules.specs.History as H
 use Rattle.jc_network.specs.NetworkHistory.{NetworkHistory}
 use Rattle.jc_network.specs.Given.{before_given, IsBeforeGiven}
 use Rattle.jc_cli.specs.declared.order.View.TheVariants.{Journal}
-use Rattle.jc_session.specs.Written.{Stream, Wrote, Written, WrittenInPart}
-use Rattle.jc_session.proofs.WrittenLemmas.{wrote_none, wrote_both, part_after}
+use Rattle.jc_io.specs.Written.{Stream, Wrote, Written, WrittenInPart}
+use Rattle.jc_io.proofs.WrittenLemmas.{wrote_none, wrote_both, part_after}
 use Rattle.jc_program.specs.JournalResult.{JournalsAll, AreLinesDue}
 use Rattle.jc_program.specs.Journals.{Asked, JournalOf, Journaled, given_stuck, ran, JournalBegins, JournalStops, IsJournalUnfinished}
 use Rattle.jc_program.specs.Runs.{Stuck, status_of}

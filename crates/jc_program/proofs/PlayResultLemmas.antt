@@ -17,9 +17,9 @@ use Rattle.jc_network.specs.declared.fault.Stuck.{Stuck as StuckEvent}
 use Rattle.jc_network.specs.NetworkHistory.{NetworkHistory, StepsTo}
 use Rattle.jc_network.specs.Given.{IsStarted}
 use Rattle.jc_dump.specs.Dump.{dump_line}
-use Rattle.jc_session.specs.Written.{Stream, Wrote, WrotePart, Written, WrittenInPart}
+use Rattle.jc_io.specs.Written.{Stream, Wrote, WrotePart, Written, WrittenInPart}
 use Rattle.jc_session.proofs.TextsListLemmas.{next_dumps}
-use Rattle.jc_session.proofs.WrittenLemmas.{wrote_none, wrote_both, part_after}
+use Rattle.jc_io.proofs.WrittenLemmas.{wrote_none, wrote_both, part_after}
 use Rattle.jc_program.specs.Texts.{event_text}
 use Rattle.jc_program.specs.ViewText.{RanThrough}
 use Rattle.jc_program.specs.ViewOutput.{IsNext}

@@ -16,7 +16,7 @@ use Rattle.jc_program.specs.ThreadRuns.{IsByThreads, AreThreadScenario, Records,
 use Rattle.jc_program.specs.WeaveRuns.{IsBySeed}
 use Rattle.jc_io.specs.Streams.{ConsumesUpTo}
 use Rattle.jc_runner.specs.declared.starting.SpawnRefused.{SpawnRefused}
-use Rattle.jc_session.specs.Written.{Stream}
+use Rattle.jc_io.specs.Written.{Stream}
 use Rattle.jc_program.specs.Promise.{World, Files, Promise, All, Says, Carried, Stopped, Completes, Breaks, done, text_refused, stuck, given_stuck, thread_starved, help, usage, read_failed, write_failed, help_write_failed, too_many_lines, no_thread, no_memory, no_memory_for_words}
 use Rattle.jc_cli.specs.Laws.{FaultlessAreOrders}
 use Rattle.jc_cli.proofs.ProgramCommandsLemmas.{asks_none}

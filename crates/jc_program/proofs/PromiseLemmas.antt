@@ -24,7 +24,7 @@ use Rattle.jc_program.specs.SessionRuns.{lines_by}
 use Rattle.jc_program.specs.ThreadRuns.{outcome_status, Records, IsByThreads, HaveThreaded, HaveStopped}
 use Rattle.jc_program.specs.WeaveRuns.{IsBySeed}
 use Rattle.jc_program.specs.Commands.{IsAlone, IsSilent, IsDone, IsStoppedCommand}
-use Rattle.jc_session.specs.Written.{Stream}
+use Rattle.jc_io.specs.Written.{Stream}
 use Rattle.jc_program.specs.Promise.{World, Files, NoneFailed, ReadsFor, HasStart, Promise, All, Says, Carried, Stopped, Completes, Breaks, done, text_refused, stuck, given_stuck, thread_starved, help, usage, read_failed, write_failed, help_write_failed, too_many_lines, no_thread, no_memory, no_memory_for_words}
 use Rattle.jc_program.proofs.CommandsLemmas as E
 

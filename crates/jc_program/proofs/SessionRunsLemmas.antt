@@ -7,7 +7,7 @@ use Rattle.jc_session.specs.Answers.{Origin}
 use Rattle.jc_session.specs.SessionText.{End, finished, too_many, text_refused, given_stuck, ShowsSession, refused, stuck, talks}
 use Rattle.jc_session.specs.Sent.{OfLines, OfLinesLeft, WentToRead, WentWhole, WentFront, ShowsAll, IsPast, WentRefused, WentGiven, OnScenario}
 use Rattle.jc_io.specs.declared.io.Sink.{Ghosts as SinkGhosts}
-use Rattle.jc_session.specs.Written.{Stream, sink}
+use Rattle.jc_io.specs.Written.{Stream, sink}
 use Rattle.jc_debug.specs.DebuggerState.{Session}
 use Rattle.jc_program.specs.SessionRuns.{lines_by, ShowsTo, TalksOn, StopsOn, HasTalked, HasStopped}
 use Rattle.jc_program.specs.declared.fault.WorkFault.{WorkFault}

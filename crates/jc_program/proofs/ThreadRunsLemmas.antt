@@ -4,8 +4,8 @@ use Rattle.jc_io.specs.Streams.{IsPrefixUpTo}
 use Rattle.jc_parser.specs.declared.fault.ScenarioFault.{ScenarioFault}
 use Rattle.jc_parser.specs.declared.fault.ScenarioFault.TheVariants.{Memory as NoMemoryRead}
 use Rattle.jc_scenario.specs.WellFormed.{Scenario, IsScenario}
-use Rattle.jc_session.specs.Written.{Stream, Wrote, WrotePart, Sent, Written, WrittenInPart}
-use Rattle.jc_session.proofs.WrittenLemmas.{wrote_none}
+use Rattle.jc_io.specs.Written.{Stream, Wrote, WrotePart, Sent, Written, WrittenInPart}
+use Rattle.jc_io.proofs.WrittenLemmas.{wrote_none}
 use Rattle.jc_program.specs.Recordings.{IsRecordFault}
 use Rattle.jc_runner.specs.declared.starting.SpawnRefused.{SpawnRefused}
 use Rattle.jc_program.specs.declared.recording.Recording.{Recording}

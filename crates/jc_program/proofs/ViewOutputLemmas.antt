@@ -14,8 +14,8 @@ use Rattle.jc_parser.specs.declared.fault.ScenarioFault.TheVariants.{Memory as N
 use Rattle.jc_scenario.specs.WellFormed.{Scenario}
 use Rattle.jc_network.specs.NetworkHistory.{NetworkHistory}
 use Rattle.jc_network.specs.Given.{IsStart, IsStarted}
-use Rattle.jc_session.specs.Written.{Stream, WrotePart, Written, WrittenInPart}
-use Rattle.jc_session.proofs.WrittenLemmas.{wrote_none}
+use Rattle.jc_io.specs.Written.{Stream, WrotePart, Written, WrittenInPart}
+use Rattle.jc_io.proofs.WrittenLemmas.{wrote_none}
 use Rattle.jc_cli.specs.declared.order.View.{View}
 use Rattle.jc_program.specs.declared.fault.WorkFault.{WorkFault}
 use Rattle.jc_program.specs.declared.fault.WorkFault.TheVariants.{Read, Write, TooManyLines, NoThread, Memory}

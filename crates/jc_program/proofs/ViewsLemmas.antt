@@ -9,8 +9,8 @@ use Rattle.jc_network.specs.Given.{IsStarted}
 use Rattle.jc_network.specs.Steps.{stuck_for}
 use Rattle.jc_dump.specs.Lines.{stuck_text}
 use Rattle.jc_rules.specs.Step.{Network}
-use Rattle.jc_session.specs.Written.{Stream, Wrote, WrotePart, Written, WrittenInPart}
-use Rattle.jc_session.proofs.WrittenLemmas.{wrote_both, part_after, part_of_longer}
+use Rattle.jc_io.specs.Written.{Stream, Wrote, WrotePart, Written, WrittenInPart}
+use Rattle.jc_io.proofs.WrittenLemmas.{wrote_both, part_after, part_of_longer}
 use Rattle.jc_cli.specs.declared.order.View.TheVariants.{Document}
 use Rattle.jc_program.specs.ViewOutput.{Begins, IsViewDue}
 use Rattle.jc_program.specs.PlayResult.{Tells, PlaysAll}

@@ -14,7 +14,7 @@ use Rattle.jc_journal.specs.declared.event.NumberedEvent.{NumberedEvent}
 use Rattle.jc_journal.specs.Before.{IsNoted}
 use Rattle.jc_journal.specs.EventLine.{AreEffects, event_line}
 use Rattle.jc_journal.specs.StuckLine.{stuck_event_line}
-use Rattle.jc_session.specs.Written.{Stream, Wrote}
+use Rattle.jc_io.specs.Written.{Stream, Wrote}
 use Rattle.jc_program.specs.Journals.{Asked, IsEventLine, JournalOf, JournalBegins}
 use Rattle.jc_program.specs.Runs.{Stuck}
 

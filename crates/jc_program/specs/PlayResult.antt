@@ -6,7 +6,7 @@ use Rattle.jc_printer.specs.Canon.{AreNamed}
 use Rattle.jc_network.specs.declared.fault.Stuck.{Stuck as StuckEvent}
 use Rattle.jc_network.specs.NetworkHistory.{NetworkHistory, StepsTo}
 use Rattle.jc_network.specs.Steps.{IsStuckFor, stuck_for}
-use Rattle.jc_session.specs.Written.{Stream, Wrote}
+use Rattle.jc_io.specs.Written.{Stream, Wrote}
 use Rattle.jc_program.specs.Texts.{event_text}
 use Rattle.jc_program.specs.Runs.{Stuck, Plays}
 

@@ -8,7 +8,7 @@ use Rattle.jc_program.specs.declared.recording.Outcome.{Outcome}
 use Rattle.jc_program.specs.declared.recording.Outcome.TheVariants.{NoMemory, Stuck, Done}
 use Rattle.jc_program.specs.declared.recording.Recording.{Recording}
 use Rattle.jc_program.specs.ViewText.{ReadsAs, IsGivenShown, IsRefused}
-use Rattle.jc_session.specs.Written.{Stream, Wrote, WrotePart, Written, WrittenInPart}
+use Rattle.jc_io.specs.Written.{Stream, Wrote, WrotePart, Written, WrittenInPart}
 use Rattle.jc_program.specs.ViewOutput.{AreTold}
 use Rattle.jc_program.specs.WorkFaults.{fault_status, fault_line}
 use Rattle.jc_program.specs.Faults.{IsCause}

@@ -9,7 +9,7 @@ use Rattle.jc_parser.specs.declared.fault.ScenarioFault.{ScenarioFault}
 use Rattle.jc_scenario.specs.WellFormed.{Scenario, IsScenario}
 use Rattle.jc_dump.specs.Texts.{dumps_text}
 use Rattle.jc_view.specs.Visible.{views_text}
-use Rattle.jc_session.specs.Written.{Stream, Written, WrittenInPart}
+use Rattle.jc_io.specs.Written.{Stream, Written, WrittenInPart}
 use Rattle.jc_program.specs.declared.fault.WorkFault.{WorkFault}
 use Rattle.jc_program.specs.declared.fault.WorkFault.TheVariants.{Read, Write, TooManyLines, NoThread, Memory}
 use Rattle.jc_program.specs.Journals.{Asked, AreFirstLines, IsJournalUnfinished}

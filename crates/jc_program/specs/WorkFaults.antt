@@ -2,7 +2,7 @@
 use Rattle.std.specs.Prelude.{◌≡◌, ◌≢◌, ◌⊎◌, ℕ, List, codes, string_bytes}
 use Rattle.std.specs.declared.io.ErrorKind.{ErrorKind}
 use Rattle.std.specs.declared.io.ErrorKind.TheVariants.{OutOfMemory}
-use Rattle.jc_session.specs.Written.{Stream, Wrote, WrotePart, Sent}
+use Rattle.jc_io.specs.Written.{Stream, Wrote, WrotePart, Sent}
 use Rattle.jc_cli.specs.declared.fault.WordsFault.{WordsFault}
 use Rattle.jc_cli.specs.declared.fault.WordsFault.TheVariants as words
 use Rattle.jc_program.specs.declared.fault.WorkFault.{WorkFault}

@@ -2,7 +2,7 @@
 
 ghost use Rattle.std.specs.Prelude.{◌≡◌};
 ghost use Rattle.jc_program.specs.WorkFaults.{fault_status, fault_line};
-ghost use Rattle.jc_session.specs.Written.{sink, Sent};
+ghost use Rattle.jc_io.specs.Written.{sink, Sent};
 
 use crate::sending::report;
 use jc_io::Sink;

@@ -13,7 +13,7 @@ ghost use Rattle.jc_network.specs.Given.{before_given};
 ghost use Rattle.jc_journal.specs.Before.{IsNoted};
 ghost use Rattle.jc_journal.specs.Parts.{rows_of};
 ghost use Rattle.jc_cli.specs.declared.order.View.TheVariants as V;
-ghost use Rattle.jc_session.specs.Written.{sink, Wrote, WrotePart, Written, WrittenInPart};
+ghost use Rattle.jc_io.specs.Written.{sink, Wrote, WrotePart, Written, WrittenInPart};
 ghost use Rattle.jc_program.specs.JournalResult.{asked_by, IsBehind, CatchesUp, IsLineOf, OfStuckLine, JournalsNext, IsNextLine, JournalsAll, AreLinesDue};
 ghost use Rattle.jc_program.specs.Journals.{rows_asked, JournalStops, IsJournalUnfinished};
 ghost use Rattle.jc_program.specs.ViewOutput.{IsJournalDue};

@@ -4,7 +4,7 @@ ghost use Rattle.std.specs.Prelude.{◌≡◌, ◌≢◌, ◌+◌, ◌<◌, ◌�
 ghost use Rattle.std.specs.Io.{ReadsAtMost};
 ghost use Rattle.jc_io.specs.Streams.{ConsumesUpTo, ReadsBytes};
 ghost use Rattle.jc_rules.specs.declared.limits.TheConstants.{MAX_TEXT};
-ghost use Rattle.jc_session.specs.Written.{sink};
+ghost use Rattle.jc_io.specs.Written.{sink};
 ghost use Rattle.jc_program.specs.ViewOutput.{told_by};
 ghost use Rattle.jc_program.specs.Faults.{IsCause, IsUnread};
 ghost use Rattle.jc_program.specs.SessionRuns.{lines_by, TalksOn, StopsOn, HasTalked, HasStopped};

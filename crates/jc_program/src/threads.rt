@@ -5,7 +5,7 @@ ghost use Rattle.jc_io.specs.Streams.{ConsumesUpTo};
 ghost use Rattle.jc_rules.specs.declared.limits.TheConstants.{MAX_TEXT, MAX_THREAD_EVENTS};
 ghost use Rattle.jc_scenario.specs.WellFormed.{IsWellFormedScenario};
 ghost use Rattle.jc_scenario.specs.Views.{scenario_view};
-ghost use Rattle.jc_session.specs.Written.{sink, Wrote, WrotePart, Sent};
+ghost use Rattle.jc_io.specs.Written.{sink, Wrote, WrotePart, Sent};
 ghost use Rattle.jc_program.specs.ViewOutput.{told_by};
 ghost use Rattle.jc_program.specs.Faults.{IsCause, IsUnread};
 ghost use Rattle.jc_program.specs.ThreadRuns.{outcome_status, IsUnrecorded, ShowsRecording, IsByThreads, ThreadsRan, AreTextsOfRecording, AreThreadScenario, StopsRecording, HaveThreaded, HaveStopped};

@@ -7,7 +7,7 @@ ghost use Rattle.jc_rules.specs.declared.limits.TheConstants.{MAX_EVENTS, MAX_TE
 ghost use Rattle.jc_scenario.specs.WellFormed.{IsWellFormedScenario};
 ghost use Rattle.jc_scenario.specs.Views.{scenario_view};
 ghost use Rattle.jc_network.specs.Given.{before_given, IsGivenFault};
-ghost use Rattle.jc_session.specs.Written.{sink, Sent};
+ghost use Rattle.jc_io.specs.Written.{sink, Sent};
 ghost use Rattle.jc_weave.specs.Weaving.{counts_in, IsWoven};
 ghost use Rattle.jc_program.specs.ViewOutput.{told_by};
 ghost use Rattle.jc_program.specs.Faults.{IsCause, IsUnread};

@@ -1,6 +1,6 @@
 //! Arguments that are no command, or can't be read: help, or why they are wrong.
 
-ghost use Rattle.jc_session.specs.Written.{sink};
+ghost use Rattle.jc_io.specs.Written.{sink};
 ghost use Rattle.jc_program.specs.WorkFaults.{Explains, RefusesWords};
 
 use crate::fault::{WorkFault, end};

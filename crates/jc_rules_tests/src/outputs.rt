@@ -1,7 +1,7 @@
 //! Outputs: what is held and what is sent, and writings cut short.
 
 ghost use Rattle.std.specs.Prelude.{[], ◌∷◌, not};
-ghost use Rattle.jc_out.specs.Written.{sink};
+ghost use Rattle.jc_io.specs.Written.{sink};
 ghost use Rattle.jc_out.specs.Pieces.{EndsBy};
 
 use crate::testing::{has_bytes, holds};

@@ -3,7 +3,6 @@ pub mod LineReadingLemmas
 pub mod RequestsLemmas
 pub mod LinesDueLemmas
 pub mod EventNamesLemmas
-pub mod WrittenLemmas
 pub mod SessionTextLemmas
 pub mod TextsListLemmas
 pub mod AnswerOfLemmas

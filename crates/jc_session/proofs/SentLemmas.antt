@@ -23,11 +23,11 @@ use Rattle.jc_session.specs.AnswerOf.{origin_in}
 use Rattle.jc_session.specs.RequestKinds.{IsOfAnswer}
 use Rattle.jc_session.specs.SessionText.{End, text_refused, given_stuck, Talks, refused, stuck, talks}
 use Rattle.jc_session.specs.Sent.{OfLines, OfLinesLeft, LosesFront, IsPast, AnsweredAll, ShowsAll, WentRefused, WentGiven, OnScenario}
-use Rattle.jc_session.specs.Written.{Stream, Wrote, Interrupted, Written}
+use Rattle.jc_io.specs.Written.{Stream, Wrote, Interrupted, Written}
 use Rattle.jc_session.proofs.AnswerOfLemmas.{of_all}
 use Rattle.jc_session.proofs.FaultLinesLemmas.{not_memory}
 use Rattle.jc_session.proofs.SessionTextLemmas.{passed_on, some_failed}
-use Rattle.jc_session.proofs.WrittenLemmas.{one_failure}
+use Rattle.jc_io.proofs.WrittenLemmas.{one_failure}
 
 pub origin_is : (d : Seen) (s : Scenario) → IsStarted s d.net → origin_in d ≡ origin_of s (start_of d)
 origin_is d s h = let names = h.names in λ i. record { names = names i; start = start_of d }

@@ -5,7 +5,6 @@ pub mod Views
 pub mod Texts
 pub mod Answers
 pub mod SessionText
-pub mod Written
 pub mod Sent
 pub mod Progress
 pub mod AnswerOf

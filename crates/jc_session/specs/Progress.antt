@@ -6,7 +6,7 @@ use Rattle.jc_debug.specs.DebuggerState.{Session}
 use Rattle.jc_session.specs.Lines.{Lacks, with_line_ends, whole_line}
 use Rattle.jc_session.specs.Answers.{Origin}
 use Rattle.jc_session.specs.SessionText.{AnswersLines}
-use Rattle.jc_session.specs.Written.{Stream, Wrote}
+use Rattle.jc_io.specs.Written.{Stream, Wrote}
 
 -- Whole lines were read and answered, which led from the state A to B: what of the source was left at first and is left
 -- now, the sink at first and now, and how many bytes and lines these were.

@@ -15,7 +15,7 @@ use Rattle.jc_debug.specs.DebuggerState.{Session, new_session}
 use Rattle.jc_session.specs.Lines.{Line, Lacks, with_line_ends, whole_line, last_line}
 use Rattle.jc_session.specs.Answers.{Origin, origin_of, IsFaultLine, LineAnswer}
 use Rattle.jc_session.specs.SessionText.{AnswersLines, Talks, End, ShowsSession}
-use Rattle.jc_session.specs.Written.{Stream, Wrote, Interrupted, Written}
+use Rattle.jc_io.specs.Written.{Stream, Wrote, Interrupted, Written}
 
 -- the answer of a line was written, and the session goes on
 abbrev pub GoesOn : Origin → Session → Line → Session → Stream → Stream → Type 0

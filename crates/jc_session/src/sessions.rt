@@ -17,7 +17,7 @@ ghost use Rattle.jc_session.specs.Requests.{meaning, asks, quit};
 ghost use Rattle.jc_session.specs.SessionText.{finished, too_many, text_refused, given_stuck, ShowsSession};
 ghost use Rattle.jc_session.specs.Views.{line_of_bytes};
 ghost use Rattle.jc_session.specs.Sent.{OfLines, OfLinesLeft, LosesFront, GoesOn, BreaksOff, AnsweredAll, WentToRead, WentWhole, WentFront, IsPast, ShowsAll, WentRefused, WentGiven, OnScenario};
-ghost use Rattle.jc_session.specs.Written.{sink, Wrote, Interrupted, Written};
+ghost use Rattle.jc_io.specs.Written.{sink, Wrote, Interrupted, Written};
 
 use crate::answers::{answer, fault_line};
 use crate::lines::{Lines, Next};

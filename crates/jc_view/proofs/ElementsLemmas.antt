@@ -17,8 +17,9 @@ use Rattle.jc_rules.specs.WellFormed.{IsChainedList}
 use Rattle.jc_tree.proofs.ChainedLeadsLemmas.{steps}
 use Rattle.jc_cursor.proofs.ElementsLemmas.{nearer}
 use Rattle.jc_view.specs.Visible.{present, followed, elements_after, visible_items_at}
-use Rattle.jc_view.specs.Parts.{Gains, items_front, item_of}
-use Rattle.jc_view.proofs.TokensLemmas.{Wrote, wrote_begins, wrote_more}
+use Rattle.jc_json.specs.Gains.{Gains}
+use Rattle.jc_view.specs.Parts.{items_front, item_of}
+use Rattle.jc_json.proofs.GainsLemmas.{Wrote, wrote_begins, wrote_more}
 
 pub steps_le : (n : ℕ) (c : Context) (k : Key) → steps (Some k) n c ≤ n
 steps_le zero c k = omega arith

@@ -2,7 +2,6 @@ pub mod AppliedPathsLemmas
 pub mod DroppedLemmas
 pub mod NumbersLemmas
 pub mod PresentLemmas
-pub mod TokensLemmas
 pub mod ElementsLemmas
 pub mod MembersLemmas
 pub mod ReplicaViewsLemmas

@@ -24,10 +24,11 @@ use Rattle.jc_tree.specs.Walks.{keys_above, entry_of}
 use Rattle.jc_tree.proofs.WalksLemmas.{above-none, none_above, step}
 use Rattle.jc_view.specs.declared.document.Form.TheVariants as F
 use Rattle.jc_view.specs.Visible.{GoesThrough, present, marked, members_at, elements_after, with_part, with_values, parts_json, one_of, map_json, list_json, document, line_json}
-use Rattle.jc_view.specs.Parts.{Gains, parts_shown_at, child_json, is_list, form_of, members_front, member_shown, items_front, part_tokens, values_tokens, first_tokens, if_so}
+use Rattle.jc_json.specs.Gains.{Gains}
+use Rattle.jc_view.specs.Parts.{parts_shown_at, child_json, is_list, form_of, members_front, member_shown, items_front, part_tokens, values_tokens, first_tokens, if_so}
 use Rattle.jc_view.proofs.PresentLemmas.{present_by}
 use Rattle.jc_view.proofs.ElementsLemmas.{items_tokens_are}
-use Rattle.jc_view.proofs.TokensLemmas.{Wrote, wrote_begins}
+use Rattle.jc_json.proofs.GainsLemmas.{Wrote, wrote_begins}
 
 pub members_tokens_are : (show : Key → Json) (p : List (Key × List Id)) → members_tokens (members_at show p) ≡ members_front show p ++ T.end_object ∷ []
 members_tokens_are show [] = refl

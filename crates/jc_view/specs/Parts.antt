@@ -5,7 +5,6 @@ use Rattle.json.specs.Json.{Json, null, Items, Members}
 use Rattle.json.specs.Token.{Token}
 use Rattle.json.specs.Token as T
 use Rattle.json.specs.Tree.{json_tokens}
-use Rattle.json.specs.Written.{Written}
 use Rattle.jc_rules.specs.declared.id.Id.{Id}
 use Rattle.jc_rules.specs.declared.key.Key.{Key}
 use Rattle.jc_rules.specs.declared.key.Key.TheVariants.{Name, Elem}
@@ -21,11 +20,6 @@ use Rattle.jc_tree.specs.Walks.{entry_of}
 use Rattle.jc_view.specs.declared.document.Form.{Form as AnyForm}
 use Rattle.jc_view.specs.declared.document.Form.TheVariants as F
 use Rattle.jc_view.specs.Visible.{GoesThrough, value_json, pair_items, is_alive, present, at_key, marked, map_json, list_json, maps_in, lists_in}
-
--- These tokens were written, and nothing else.
-pub record Gains (old new : Written) (ts : List Token) : Type 0 where
-  pub before : new.before ≡ old.before
-  pub tokens : new.tokens ≡ old.tokens ++ ts
 
 -- what is shown at a key of a context at a path
 abbrev pub parts_shown_at : List (List ℕ) → GoesThrough → List Tagged → Context → Key → Json

@@ -15,7 +15,8 @@ ghost use Rattle.jc_rules.specs.Paths.{HasContext};
 ghost use Rattle.jc_rules.specs.WellFormed.{IsChained};
 ghost use Rattle.jc_tree.specs.Tree.{HasPlace, here};
 ghost use Rattle.jc_view.specs.Visible.{goes_by, marked, or_no_value, parts_json, present, map_json, list_json, view_line};
-ghost use Rattle.jc_view.specs.Parts.{Gains, parts_shown_at, child_json, shows_at, form_of, member_shown, item_of, part_tokens, values_tokens, first_tokens, is_list, if_so};
+ghost use Rattle.jc_json.specs.Gains.{Gains};
+ghost use Rattle.jc_view.specs.Parts.{parts_shown_at, child_json, shows_at, form_of, member_shown, item_of, part_tokens, values_tokens, first_tokens, is_list, if_so};
 
 use crate::alive::is_alive;
 use crate::values::{write_pairs, write_value};

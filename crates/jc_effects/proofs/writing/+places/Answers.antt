@@ -1,7 +1,7 @@
 use Rattle.std.proofs.Common.{codes, sym, ◌∙◌, ap, subst}
 use Rattle.std.proofs.lemmas.Result.{on_ok_weaker}
-use Rattle.jc_view.specs.Parts.{Gains}
-use Rattle.jc_view.proofs.TokensLemmas.{gains_one}
+use Rattle.jc_json.specs.Gains.{Gains}
+use Rattle.jc_json.proofs.GainsLemmas.{gains_one}
 use Rattle.jc_effects.specs.declared.effects.Effects.{Effects}
 use Rattle.jc_effects.specs.Difference.{Differences}
 use Rattle.jc_effects.specs.EffectsJson.{some_items, place_items}

@@ -1,5 +1,5 @@
 use Rattle.std.proofs.Common.{◌≤◌}
-use Rattle.jc_view.proofs.TokensLemmas.{Wrote}
+use Rattle.jc_json.proofs.GainsLemmas.{Wrote}
 use Rattle.jc_effects.specs.declared.effects.Effects.{size-Effects}
 use Rattle.jc_effects.specs.EffectsJson.{place_items}
 use Rattle.jc_effects.specs.Parts.{differences_of, item_tokens}

@@ -1,5 +1,5 @@
 use Rattle.std.proofs.lemmas.Result.{on_ok_weaker}
-use Rattle.jc_view.proofs.TokensLemmas.{gains_one}
+use Rattle.jc_json.proofs.GainsLemmas.{gains_one}
 use Rattle.jc_effects.specs.EffectsJson.{place_items}
 use Rattle.jc_effects.specs.Parts.{differences_of}
 use Rattle.jc_effects.proofs.PartsTokensLemmas.{array_written}

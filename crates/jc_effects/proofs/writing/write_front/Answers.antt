@@ -4,8 +4,8 @@ use Rattle.json.specs.Json.{string}
 use Rattle.json.specs.Token as T
 use Rattle.jc_rules.specs.declared.id.Id.{Id}
 use Rattle.jc_json.specs.Json.{key_text}
-use Rattle.jc_view.specs.Parts.{Gains}
-use Rattle.jc_view.proofs.TokensLemmas.{gains_one}
+use Rattle.jc_json.specs.Gains.{Gains}
+use Rattle.jc_json.proofs.GainsLemmas.{gains_one}
 use Rattle.jc_effects.specs.EffectsJson.{some_ids}
 use Rattle.jc_effects.specs.Parts.{labelled_tokens}
 use Rattle.jc_effects.proofs.PartsTokensLemmas.{labelled_then, labelled_one}

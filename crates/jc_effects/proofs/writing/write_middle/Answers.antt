@@ -1,7 +1,7 @@
 use Rattle.std.proofs.Common.{List, codes, subst}
 use Rattle.std.proofs.lemmas.Result.{on_ok_weaker}
 use Rattle.jc_rules.specs.declared.id.Id.{Id}
-use Rattle.jc_view.specs.Parts.{Gains}
+use Rattle.jc_json.specs.Gains.{Gains}
 use Rattle.jc_effects.specs.EffectsJson.{some_ids, some_tags}
 use Rattle.jc_effects.specs.Parts.{tags_made, labelled_tokens}
 use Rattle.jc_effects.proofs.PartsTokensLemmas.{labelled_then}

@@ -1,6 +1,6 @@
 use Rattle.std.proofs.Common.{drop, map}
 use Rattle.json.specs.Tree.{items_tokens}
-use Rattle.jc_view.proofs.TokensLemmas.{Wrote}
+use Rattle.jc_json.proofs.GainsLemmas.{Wrote}
 use Rattle.jc_effects.specs.EffectsJson.{as_items, id_and_value}
 use Rattle.jc_effects.proofs.writing.write_pair_list.Given as goal
 

@@ -1,7 +1,7 @@
 use Rattle.std.proofs.Common.{map}
 use Rattle.std.proofs.lemmas.Result.{on_ok_weaker}
 use Rattle.jc_effects.specs.EffectsJson.{as_items, id_and_value}
-use Rattle.jc_view.proofs.TokensLemmas.{gains_one}
+use Rattle.jc_json.proofs.GainsLemmas.{gains_one}
 use Rattle.jc_effects.proofs.PartsTokensLemmas.{some_written, items_empty}
 use Rattle.jc_effects.proofs.writing.write_pairs.Goals as goal
 

@@ -1,6 +1,6 @@
 use Rattle.std.proofs.Common.{◌∷◌, ◌++◌, [], List, subst}
 use Rattle.std.proofs.lemmas.Result.{on_ok_weaker}
-use Rattle.jc_view.specs.Parts.{Gains}
+use Rattle.jc_json.specs.Gains.{Gains}
 use Rattle.jc_journal.specs.Operation.{NamedJson}
 use Rattle.jc_journal.specs.EventLine.{event_member, sender_member, given_member, kind_member, new_member, number_member, op_member, effects_member, replica_member, rules_member}
 use Rattle.jc_journal.specs.Parts.{member_tokens, rows_of, differences_at, noted_command, noted_new, noted_op}

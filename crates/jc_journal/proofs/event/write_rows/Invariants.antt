@@ -1,6 +1,6 @@
 use Rattle.std.proofs.Common.{drop}
 use Rattle.json.specs.Tree.{items_tokens}
-use Rattle.jc_view.proofs.TokensLemmas.{Wrote}
+use Rattle.jc_json.proofs.GainsLemmas.{Wrote}
 use Rattle.jc_journal.specs.EventLine.{rule_items}
 use Rattle.jc_journal.proofs.event.write_rows.Given as goal
 

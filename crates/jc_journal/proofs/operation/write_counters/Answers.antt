@@ -3,8 +3,8 @@ use Rattle.std.proofs.Math.Seq.{drop-length}
 use Rattle.json.specs.Token.{Token}
 use Rattle.jc_rules.specs.ReplicaNames.{name_at}
 use Rattle.jc_rules.specs.VersionVectors.{greatest_of}
-use Rattle.jc_view.specs.Parts.{Gains}
-use Rattle.jc_view.proofs.TokensLemmas.{Wrote, wrote_begins, wrote_more, wrote_end}
+use Rattle.jc_json.specs.Gains.{Gains}
+use Rattle.jc_json.proofs.GainsLemmas.{Wrote, wrote_begins, wrote_more, wrote_end}
 use Rattle.jc_journal.specs.Operation.{counter_member, counter_members}
 use Rattle.jc_journal.specs.Parts.{member_tokens}
 use Rattle.jc_journal.proofs.OperationLemmas.{counters_next}

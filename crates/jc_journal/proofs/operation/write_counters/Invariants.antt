@@ -1,5 +1,5 @@
 use Rattle.std.proofs.Common.{drop}
-use Rattle.jc_view.proofs.TokensLemmas.{Wrote}
+use Rattle.jc_json.proofs.GainsLemmas.{Wrote}
 use Rattle.jc_journal.specs.Operation.{counter_members}
 use Rattle.jc_journal.specs.Parts.{member_tokens}
 use Rattle.jc_journal.proofs.operation.write_counters.Given as goal

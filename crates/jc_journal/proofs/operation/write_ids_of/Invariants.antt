@@ -2,8 +2,8 @@ use Rattle.std.proofs.Common.{drop, map}
 use Rattle.json.specs.Tree.{items_tokens}
 use Rattle.jc_json.specs.Json.{id_text}
 use Rattle.jc_replica.specs.Operations.{identifiers}
-use Rattle.jc_view.proofs.TokensLemmas.{Wrote}
-use Rattle.jc_journal.specs.Operation.{string_items}
+use Rattle.jc_json.proofs.GainsLemmas.{Wrote}
+use Rattle.jc_json.specs.Values.{string_items}
 use Rattle.jc_journal.proofs.operation.write_ids_of.Given as goal
 
 abbrev pub invariant-loop-op : goal.invariant-loop-op

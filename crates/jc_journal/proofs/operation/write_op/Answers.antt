@@ -3,8 +3,8 @@ use Rattle.std.proofs.lemmas.Result.{on_ok_weaker}
 use Rattle.json.specs.Json.{string}
 use Rattle.json.specs.Token as T
 use Rattle.jc_json.specs.Json.{id_text}
-use Rattle.jc_view.specs.Parts.{Gains}
-use Rattle.jc_view.proofs.TokensLemmas.{gains_one}
+use Rattle.jc_json.specs.Gains.{Gains}
+use Rattle.jc_json.proofs.GainsLemmas.{gains_one}
 use Rattle.jc_journal.specs.Operation.{NamedJson, cursor_json, vector_json, mutation_name, mutation_value}
 use Rattle.jc_journal.specs.Parts.{member_tokens}
 use Rattle.jc_journal.proofs.TokensLemmas.{members_then, object_written}

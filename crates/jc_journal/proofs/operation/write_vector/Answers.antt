@@ -1,8 +1,8 @@
 use Rattle.std.proofs.Common.{◌∷◌, []}
 use Rattle.std.proofs.lemmas.Result.{on_ok_weaker}
 use Rattle.json.specs.Token as T
-use Rattle.jc_view.specs.Parts.{Gains}
-use Rattle.jc_view.proofs.TokensLemmas.{gains_one}
+use Rattle.jc_json.specs.Gains.{Gains}
+use Rattle.jc_json.proofs.GainsLemmas.{gains_one}
 use Rattle.jc_journal.specs.Operation.{counter_members}
 use Rattle.jc_journal.proofs.TokensLemmas.{object_written}
 use Rattle.jc_journal.proofs.operation.write_vector.Goals as goal

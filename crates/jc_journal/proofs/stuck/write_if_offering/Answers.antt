@@ -3,8 +3,8 @@ use Rattle.std.proofs.lemmas.Result.{on_ok_weaker}
 use Rattle.json.specs.Token.{Token}
 use Rattle.json.specs.Token as T
 use Rattle.jc_rules.specs.ReplicaNames.{name_at}
-use Rattle.jc_view.specs.Parts.{Gains}
-use Rattle.jc_view.proofs.TokensLemmas.{gains_nothing}
+use Rattle.jc_json.specs.Gains.{Gains}
+use Rattle.jc_json.proofs.GainsLemmas.{gains_nothing}
 use Rattle.jc_journal.specs.Parts.{name_tokens}
 use Rattle.jc_journal.proofs.StuckLineLemmas.{offers_tell, name_tells}
 use Rattle.jc_journal.proofs.stuck.write_if_offering.Goals as goal

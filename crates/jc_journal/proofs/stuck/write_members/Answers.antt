@@ -2,7 +2,7 @@ use Rattle.std.proofs.Common.{◌∷◌, ◌++◌, [], List, ℕ, codes, decimal
 use Rattle.std.proofs.lemmas.Result.{on_ok_weaker}
 use Rattle.json.specs.Json.{number, string}
 use Rattle.jc_rules.specs.Refusals.{refusal_name}
-use Rattle.jc_view.specs.Parts.{Gains}
+use Rattle.jc_json.specs.Gains.{Gains}
 use Rattle.jc_journal.specs.Operation.{NamedJson}
 use Rattle.jc_journal.specs.EventLine.{event_member, given_member, kind_member, number_member, replica_member}
 use Rattle.jc_journal.specs.StuckLine.{wanted_id, key_member, offered_member, missing_member}

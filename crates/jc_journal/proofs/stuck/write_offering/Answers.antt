@@ -1,8 +1,8 @@
 use Rattle.std.proofs.Common.{◌<◌, length, drop, sym, subst, ap, arith, add-one}
 use Rattle.json.specs.Tree.{items_tokens}
 use Rattle.jc_network.proofs.MembersLemmas.{some_at}
-use Rattle.jc_view.proofs.TokensLemmas.{Wrote, wrote_more}
-use Rattle.jc_journal.specs.Operation.{string_items}
+use Rattle.jc_json.proofs.GainsLemmas.{Wrote, wrote_more}
+use Rattle.jc_json.specs.Values.{string_items}
 use Rattle.jc_journal.specs.StuckLine.{offering_from}
 use Rattle.jc_journal.proofs.StuckLineLemmas.{offering_next}
 use Rattle.jc_journal.proofs.stuck.write_offering.Goals as goal

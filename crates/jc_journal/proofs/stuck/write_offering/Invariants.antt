@@ -1,7 +1,7 @@
 use Rattle.std.proofs.Common.{drop}
 use Rattle.json.specs.Tree.{items_tokens}
-use Rattle.jc_view.proofs.TokensLemmas.{Wrote}
-use Rattle.jc_journal.specs.Operation.{string_items}
+use Rattle.jc_json.proofs.GainsLemmas.{Wrote}
+use Rattle.jc_json.specs.Values.{string_items}
 use Rattle.jc_journal.specs.StuckLine.{offering_from}
 use Rattle.jc_journal.proofs.stuck.write_offering.Given as goal
 

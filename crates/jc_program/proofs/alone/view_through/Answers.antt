@@ -1,7 +1,7 @@
 use Rattle.std.proofs.Common.{◌≡◌, ◌∙◌, inr, Result, Err, refl, ap, take, false}
 use Rattle.std.proofs.lemmas.Result.{IfOk-weaker}
 use Rattle.jc_scenario.specs.Views.{scenario_view}
-use Rattle.jc_session.specs.Written.{sink, Written}
+use Rattle.jc_io.specs.Written.{sink, Written}
 use Rattle.jc_session.proofs.SentLemmas.{handed}
 use Rattle.jc_view.specs.Visible.{views_text}
 use Rattle.jc_network.specs.declared.fault.StartFault.{StartFault}

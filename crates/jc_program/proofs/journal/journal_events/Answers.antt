@@ -1,7 +1,7 @@
 use Rattle.std.proofs.Common.{◌≡◌, ◌+◌, ◌<◌, length, is_some, ◌∙◌, ap, sym, subst, arith}
 use Rattle.jc_rules.specs.declared.operation.Event.TheVariants.{Exec}
 use Rattle.jc_network.specs.NetworkHistory.{NetworkHistory}
-use Rattle.jc_session.specs.Written.{sink, WrittenInPart}
+use Rattle.jc_io.specs.Written.{sink, WrittenInPart}
 use Rattle.jc_session.proofs.SentLemmas.{handed}
 use Rattle.jc_program.specs.JournalResult.{asked_by, IsBehind, JournalsNext, IsNextLine}
 use Rattle.jc_program.proofs.JournalResultLemmas.{asked_for, numbered_event, numbered_at, line_here, line_stops, line_begun, lines_begin, lines_end, lines_stand}

@@ -1,5 +1,5 @@
 use Rattle.std.proofs.Common.{◌≡◌, [], is_some}
-use Rattle.jc_session.specs.Written.{sink}
+use Rattle.jc_io.specs.Written.{sink}
 use Rattle.jc_program.specs.JournalResult.{asked_by, IsBehind}
 use Rattle.jc_program.proofs.JournalResultLemmas.{LinesGoOn}
 use Rattle.jc_program.proofs.journal.journal_events.Given as goal

@@ -1,6 +1,6 @@
 use Rattle.std.proofs.Common.{List, ℕ, Result, Err, refl, ap, subst}
 use Rattle.jc_rules.specs.Trace.{Rows}
-use Rattle.jc_session.specs.Written.{sink, Wrote, WrotePart}
+use Rattle.jc_io.specs.Written.{sink, Wrote, WrotePart}
 use Rattle.jc_session.proofs.SentLemmas.{handed}
 use Rattle.jc_network.specs.declared.fault.StepFault.{StepFault}
 use Rattle.jc_program.specs.JournalResult.{asked_by}

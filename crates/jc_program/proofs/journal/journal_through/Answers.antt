@@ -1,6 +1,6 @@
 use Rattle.std.proofs.Common.{true, false, ◌∙◌, refl}
 use Rattle.jc_scenario.specs.Views.{scenario_view}
-use Rattle.jc_session.specs.Written.{sink, Written, WrittenInPart}
+use Rattle.jc_io.specs.Written.{sink, Written, WrittenInPart}
 use Rattle.jc_session.proofs.SentLemmas.{handed}
 use Rattle.jc_network.proofs.GivenHistoryLemmas.{has_parts}
 use Rattle.jc_program.specs.JournalResult.{JournalsAll, AreLinesDue}

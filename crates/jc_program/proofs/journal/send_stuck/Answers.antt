@@ -1,6 +1,6 @@
 use Rattle.std.proofs.Common.{ℕ, List, ◌∙◌, subst}
 use Rattle.std.proofs.lemmas.Result.{on_ok_weaker}
-use Rattle.jc_session.specs.Written.{sink, Wrote, WrotePart}
+use Rattle.jc_io.specs.Written.{sink, Wrote, WrotePart}
 use Rattle.jc_program.proofs.JournalResultLemmas.{cut_of}
 use Rattle.jc_program.proofs.journal.send_stuck.Goals as goal
 

@@ -1,7 +1,7 @@
 use Rattle.std.proofs.Common.{◌≡◌, ◌+◌, ◌<◌, ◌++◌, ℕ, List, [], length, get_or, refl, ap, sym, ◌∙◌, subst, arith}
 use Rattle.jc_rules.specs.declared.operation.Event.TheVariants.{Exec}
 use Rattle.jc_network.specs.NetworkHistory.{NetworkHistory}
-use Rattle.jc_session.specs.Written.{sink, WrotePart}
+use Rattle.jc_io.specs.Written.{sink, WrotePart}
 use Rattle.jc_session.proofs.SentLemmas.{handed}
 use Rattle.jc_program.specs.ViewOutput.{IsNext}
 use Rattle.jc_program.proofs.PlayResultLemmas.{made_count, holds_none, holds_less, stops_here, stuck_holds, goes_here, ends_here}

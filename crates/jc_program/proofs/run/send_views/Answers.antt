@@ -1,5 +1,5 @@
 use Rattle.std.proofs.Common.{◌<◌, length, ◌∙◌, ap, arith}
-use Rattle.jc_session.specs.Written.{sink}
+use Rattle.jc_io.specs.Written.{sink}
 use Rattle.jc_program.proofs.DocumentsLemmas.{views_go_on, views_begun}
 use Rattle.jc_program.proofs.run.send_views.Goals as goal
 

@@ -1,5 +1,5 @@
 use Rattle.std.proofs.Common.{take}
-use Rattle.jc_session.specs.Written.{sink, Wrote}
+use Rattle.jc_io.specs.Written.{sink, Wrote}
 use Rattle.jc_view.specs.Visible.{views_text}
 use Rattle.jc_program.proofs.run.send_views.Given as goal
 

@@ -1,5 +1,5 @@
 use Rattle.jc_scenario.specs.Views.{scenario_view}
-use Rattle.jc_session.specs.Written.{sink, Sent}
+use Rattle.jc_io.specs.Written.{sink, Sent}
 use Rattle.jc_program.specs.WeaveRuns.{IsBySeed}
 use Rattle.jc_program.proofs.ThreadRunsLemmas.{recorded, begun, given_told, given_stopped, given_cause}
 use Rattle.jc_program.proofs.weaving.weave_all.Goals as goal

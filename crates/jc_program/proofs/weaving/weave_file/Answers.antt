@@ -1,6 +1,6 @@
 use Rattle.std.proofs.Common.{ℕ, List, refl, subst}
 use Rattle.std.proofs.lemmas.Result.{IfOk-weaker, IfErr-weaker}
-use Rattle.jc_session.specs.Written.{Stream, sink, Sent}
+use Rattle.jc_io.specs.Written.{Stream, sink, Sent}
 use Rattle.jc_program.specs.ViewOutput.{told_by}
 use Rattle.jc_program.specs.Faults.{IsUnread}
 use Rattle.jc_program.specs.ThreadRuns.{Records, AreTextsOfRecording, StopsRecording}

@@ -1,7 +1,7 @@
 use Rattle.std.proofs.Common.{ℕ, Result, Err, ap}
 use Rattle.std.proofs.lemmas.Result.{IfOk-weaker, IfErr-weaker}
 use Rattle.jc_scenario.specs.Views.{scenario_view}
-use Rattle.jc_session.specs.Written.{sink, Sent}
+use Rattle.jc_io.specs.Written.{sink, Sent}
 use Rattle.jc_program.specs.declared.run.RunFault.{RunFault}
 use Rattle.jc_program.specs.ThreadRuns.{ShowsRecording, Records}
 use Rattle.jc_program.specs.WeaveRuns.{IsBySeed, HaveNoThreads}

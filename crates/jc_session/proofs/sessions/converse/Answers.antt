@@ -2,8 +2,8 @@ use Rattle.std.proofs.Common.{◌∙◌, [], ◌∷◌, ◌++◌, Ok, inr, ap, r
 use Rattle.std.specs.Io.KnownBytes.{prepend_known}
 use Rattle.jc_session.specs.Views.{line_of_bytes}
 use Rattle.jc_session.specs.AnswerOf.{origin_in}
-use Rattle.jc_session.specs.Written.{sink}
-use Rattle.jc_session.proofs.WrittenLemmas.{one_failure}
+use Rattle.jc_io.specs.Written.{sink}
+use Rattle.jc_io.proofs.WrittenLemmas.{one_failure}
 use Rattle.jc_session.proofs.SessionTextLemmas.{goes_on, breaks_off, goes_named, all_named, is_kept, line_whole, line_last, so_far_more, at_end, at_last, at_quit_line, at_limit, next_whole, next_last, loses_front, went_whole, went_to_read, went_front, passed_on, quit_at, none_failed, some_failed, failed_last}
 use Rattle.jc_session.proofs.sessions.converse.Goals as goal
 

@@ -5,7 +5,7 @@ use Rattle.jc_printer.specs.Canon.{AreNamed}
 use Rattle.jc_debug.specs.Invariant.{session_of}
 use Rattle.jc_session.specs.AnswerOf.{origin_in}
 use Rattle.jc_session.specs.Progress.{SoFar}
-use Rattle.jc_session.specs.Written.{sink}
+use Rattle.jc_io.specs.Written.{sink}
 use Rattle.jc_session.proofs.sessions.converse.Given as goal
 
 abbrev pub invariant-lines : goal.invariant-lines

@@ -1,6 +1,6 @@
 use Rattle.std.proofs.Common.{rules}
-use Rattle.jc_session.specs.Written.{sink}
-use Rattle.jc_session.proofs.WrittenLemmas.{unflushed}
+use Rattle.jc_io.specs.Written.{sink}
+use Rattle.jc_io.proofs.WrittenLemmas.{unflushed}
 use Rattle.jc_session.proofs.sessions.send.Goals as goal
 
 pub returns-in-Err-flush-clause-err : goal.returns-in-Err-flush-clause-err

@@ -7,7 +7,7 @@ use Rattle.jc_session.specs.SessionText.{finished, too_many}
 use Rattle.jc_session.specs.declared.sessions.SessionEnd.TheVariants.{Finished}
 use Rattle.jc_session.specs.declared.sessions.SessionFault.TheVariants.{ReadFailed}
 use Rattle.jc_session.specs.Sent.{OfLinesLeft, LosesFront, WentToRead, WentWhole, WentFront}
-use Rattle.jc_session.specs.Written.{sink}
+use Rattle.jc_io.specs.Written.{sink}
 use Rattle.jc_session.proofs.SentLemmas.{text_refused_shown, refused_front, given_named, given_shown, given_front, given_written, given_failed, handed, failed_handed, on_scenario, shown_by, shown_past, none_lost, left_after_ok, left_after_err}
 use Rattle.jc_session.proofs.SessionTextLemmas.{passed_on, none_failed}
 use Rattle.jc_session.proofs.sessions.session.Goals as goal

@@ -27,8 +27,9 @@ use Rattle.jc_tree.proofs.WellFormedLemmas.{presences_rise}
 use Rattle.jc_meaning.proofs.ComparedContextsLemmas.{StandsBelow, stands_below}
 use Rattle.jc_view.specs.declared.document.Form.TheVariants as F
 use Rattle.jc_view.specs.Visible.{goes_by, or_no_value, present, marked, map_json, list_json, parts_json}
-use Rattle.jc_view.specs.Parts.{Gains, parts_shown_at, child_json, member_shown, item_of, shows_at, form_of, first_tokens, part_tokens, values_tokens, if_so}
-use Rattle.jc_view.proofs.TokensLemmas.{gains_nothing, gains_one, gains_then, wrote_more, wrote_end, gains_between}
+use Rattle.jc_json.specs.Gains.{Gains}
+use Rattle.jc_view.specs.Parts.{parts_shown_at, child_json, member_shown, item_of, shows_at, form_of, first_tokens, part_tokens, values_tokens, if_so}
+use Rattle.jc_json.proofs.GainsLemmas.{gains_nothing, gains_one, gains_then, wrote_more, wrote_end, gains_between}
 use Rattle.jc_view.proofs.ElementsLemmas.{along_begins, along_on, along_ends}
 use Rattle.jc_view.proofs.MembersLemmas.{map_begins, rest_is, map_ends, member_by, every_is, value_place, map_place, list_place, every_place, map_is, list_is, list_child, map_child}
 use Rattle.jc_view.proofs.PresentLemmas.{place_is}

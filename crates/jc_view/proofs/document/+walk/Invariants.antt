@@ -7,7 +7,7 @@ use Rattle.jc_tree.specs.Walks.{keys_above}
 use Rattle.jc_tree.proofs.ChainedLeadsLemmas.{steps}
 use Rattle.jc_view.specs.Visible.{goes_by, present}
 use Rattle.jc_view.specs.Parts.{parts_shown_at, members_front}
-use Rattle.jc_view.proofs.TokensLemmas.{Wrote}
+use Rattle.jc_json.proofs.GainsLemmas.{Wrote}
 use Rattle.jc_view.proofs.ElementsLemmas.{Along}
 use Rattle.jc_view.proofs.document.+walk.Given as goal
 

@@ -8,8 +8,9 @@ use Rattle.jc_rules.specs.Entries.{find}
 use Rattle.jc_rules.specs.Context.{Context, presences}
 use Rattle.jc_rules.specs.WellFormed.{IsChained}
 use Rattle.jc_view.specs.Visible.{goes_by, present, view_json, view_line}
-use Rattle.jc_view.specs.Parts.{Gains, parts_shown_at, part_tokens}
-use Rattle.jc_view.proofs.TokensLemmas.{gains_one, gains_then}
+use Rattle.jc_json.specs.Gains.{Gains}
+use Rattle.jc_view.specs.Parts.{parts_shown_at, part_tokens}
+use Rattle.jc_json.proofs.GainsLemmas.{gains_one, gains_then}
 use Rattle.jc_view.proofs.MembersLemmas.{view_is, printed}
 use Rattle.jc_view.proofs.document.view_line.Goals as goal
 

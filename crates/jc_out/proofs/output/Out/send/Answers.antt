@@ -1,5 +1,5 @@
 use Rattle.std.proofs.Common.{[], ◌++◌, refl, sym, subst, ◌∙◌, append-nil}
-use Rattle.jc_out.specs.Written.{WrotePart, sink}
+use Rattle.jc_io.specs.Written.{WrotePart, sink}
 use Rattle.jc_out.specs.Out.{output}
 use Rattle.jc_out.proofs.OutLemmas.{write_breaks}
 use Rattle.jc_out.proofs.output.Out.send.Goals as goal

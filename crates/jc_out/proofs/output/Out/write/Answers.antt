@@ -1,5 +1,5 @@
 use Rattle.std.proofs.Common.{◌≡◌, [], ◌++◌, refl, sym, subst, ◌∙◌, add-zero}
-use Rattle.jc_out.specs.Written.{Wrote, WrotePart, sink}
+use Rattle.jc_io.specs.Written.{Wrote, WrotePart, sink}
 use Rattle.jc_out.specs.Out.{output}
 use Rattle.jc_out.proofs.OutLemmas.{write_adds, write_breaks}
 use Rattle.jc_out.proofs.output.Out.write.Goals as goal

@@ -1,5 +1,5 @@
 use Rattle.std.proofs.Common.{◌++◌}
-use Rattle.jc_session.specs.Written.{sink}
+use Rattle.jc_io.specs.Written.{sink}
 use Rattle.jc_session.proofs.SentLemmas.{handed}
 use Rattle.jc_dump.specs.Texts.{block_text}
 use Rattle.jc_program.proofs.PlayResultLemmas.{holds_sent, held_whole, held_part}

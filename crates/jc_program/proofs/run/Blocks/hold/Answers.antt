@@ -1,6 +1,6 @@
 use Rattle.std.proofs.Common.{◌∙◌, subst}
-use Rattle.jc_session.specs.Written.{sink, Wrote, WrotePart}
-use Rattle.jc_session.proofs.WrittenLemmas.{part_of_longer}
+use Rattle.jc_io.specs.Written.{sink, Wrote, WrotePart}
+use Rattle.jc_io.proofs.WrittenLemmas.{part_of_longer}
 use Rattle.jc_dump.specs.Texts.{block_text}
 use Rattle.jc_program.proofs.PlayResultLemmas.{holds_all, holds_sent, resent}
 use Rattle.jc_program.proofs.run.Blocks.hold.Goals as goal
