@@ -221,7 +221,7 @@ module _ (o : Op) (c d : Context) (x : IsChangedBy o c d) (t : Tagged) where
   value_stays s cl i y (Some z) v e f = cc
 
   module _ (clearing : is_clearing o.mutation ≡ true) (R : List Tagged) (k : Key) (none : LosesNone k (seen (o.cursor.path ++ t ∷ R) c) (seen (o.cursor.path ++ t ∷ R) d)) (Q : List Tagged) (l : Key) (within : in_key k Q l ≡ true) where
-    W : List Tagged
+    abbrev W : List Tagged
     W = o.cursor.path ++ t ∷ (R ++ Q)
 
     longer : (o.cursor.path ++ t ∷ R) ++ Q ≡ W

@@ -18,7 +18,7 @@ use crate::below::{Change, Contexts, child_below, contexts_below};
 use crate::effects::{Effects, with_place};
 use crate::entries::{NO_HINT, entries_at, has_tag_in, ids_in, link_in};
 use crate::own::{
-    Candidates, NO_TAGS, OwnEffects, Tags, ids_without, link_changed, own_between, shown_changed,
+    Candidates, NO_TAGS, OwnEffects, Tags, ids_without, link_changed, own_between, shown_between,
 };
 use jc_rules::{Id, Key, Mutation, Next, Op, Tagged, Value, compare_ids, compare_keys};
 use jc_tree::{Place, TreeStore};
@@ -96,7 +96,7 @@ fn own_on_path<S: TreeStore>(
         lost: Vec::new(change.alloc),
         made: tag_made(tagged, has_tag_in(change.old, contexts.old, at, tagged)),
         next: None,
-        shown: shown_changed(!was.is_empty(), !now.is_empty()),
+        shown: shown_between(was, now),
         taken: Vec::new(change.alloc),
         written: Vec::new(change.alloc),
     })

@@ -8,7 +8,7 @@ ghost use Rattle.jc_effects.specs.Parts.{AreContexts, OnlyLoses, OnlyLosesAt, Ar
 
 use crate::effects::{Effects, with_place};
 use crate::entries::{ids_in, name_below, pairs_in};
-use crate::own::{NO_TAGS, OwnEffects, ids_without, pairs_without, shown_changed};
+use crate::own::{NO_TAGS, OwnEffects, ids_without, pairs_without, shown_between};
 use jc_rules::{Key, Op, Tagged};
 use jc_tree::{Hint, Place, TreeStore};
 use std::alloc::{AllocError, Global};
@@ -71,7 +71,7 @@ fn own_lost<S: TreeStore>(
         lost: ids_without(change.alloc, was, now)?,
         made: NO_TAGS,
         next: None,
-        shown: shown_changed(!was.is_empty(), !now.is_empty()),
+        shown: shown_between(was, now),
         taken: pairs_without(change.alloc, had, has)?,
         written: Vec::new(change.alloc),
     })

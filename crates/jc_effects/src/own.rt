@@ -142,10 +142,17 @@ pub(crate) fn link_changed(
     if was == now { None } else { Some((was, now)) }
 }
 
-pub(crate) fn shown_changed(was: bool, now: bool) -> Option<bool>
+fn shown_changed(was: bool, now: bool) -> Option<bool>
     ensures { result ≡ shown_changed was now }
 {
     if was == now { None } else { Some(now) }
+}
+
+/// Whether the presence set has an identifier now, where that differs.
+pub(crate) fn shown_between(was: &[Id], now: &[Id]) -> Option<bool>
+    ensures { result ≡ shown_changed (has_ids was.now) (has_ids now.now) }
+{
+    shown_changed(!was.is_empty(), !now.is_empty())
 }
 
 /// What differs between the entries of a key before and after, where only the candidates need be looked at.
@@ -166,7 +173,7 @@ pub(crate) fn own_between(
         lost: ids_without(alloc, candidates.lost, now.ids)?,
         made: new_tags(was.tags, now.tags),
         next: link_changed(was.next, now.next),
-        shown: shown_changed(!was.ids.is_empty(), !now.ids.is_empty()),
+        shown: shown_between(was.ids, now.ids),
         taken: pairs_without(alloc, candidates.taken, now.pairs)?,
         written: pairs_without(alloc, candidates.written, was.pairs)?,
     })

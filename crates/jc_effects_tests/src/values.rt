@@ -20,7 +20,7 @@ const DELETION: &str =
 /// Whether the identifier was lost with its value, and nothing else differs.
 fn is_deleted(own: &OwnEffects) -> bool {
     own.gained.is_empty()
-        && own.lost.as_slice() == &[SECOND]
+        && own.lost.as_slice() == [SECOND].as_slice()
         && own.made
             == (Tags {
                 map: false,
@@ -29,7 +29,7 @@ fn is_deleted(own: &OwnEffects) -> bool {
             })
         && own.next.is_none()
         && own.shown == Some(false)
-        && own.taken.as_slice() == &[(SECOND, Value::True)]
+        && own.taken.as_slice() == [(SECOND, Value::True)].as_slice()
         && own.written.is_empty()
 }
 
