@@ -4,6 +4,7 @@ use Rattle.json.specs.Json.{Items, array}
 use Rattle.json.specs.Tree.{json_tokens}
 use Rattle.jc_effects.specs.EffectsJson.{as_items, id_json}
 use Rattle.jc_json.specs.Gains.{Gains}
+use Rattle.jc_json.specs.Values.{ids_json}
 use Rattle.jc_json.proofs.GainsLemmas.{gains_one}
 use Rattle.jc_effects.proofs.PartsTokensLemmas.{some_written, items_empty, id_items}
 use Rattle.jc_effects.proofs.writing.write_some_ids.Goals as goal
@@ -13,7 +14,8 @@ returns c =
     let names = c.args.names.now in
     let ids = c.args.ids.now in
     let items = as_items (map (id_json names) ids) in
-    let listed = λ x. subst (λ (is : Items). Gains c.key.new.self c.write_ids.new.out (json_tokens (array is))) (id_items names ids) x in
+    let listed : Gains c.key.new.self c.write_ids.new.out (json_tokens (ids_json names ids)) → Gains c.key.new.self c.write_ids.new.out (json_tokens (array items)) =
+    subst (λ (is : Items). Gains c.key.new.self c.write_ids.new.out (json_tokens (array is))) (id_items names ids) in
     on_ok_weaker c.write_ids.result
     (λ x. some_written _ _ _ c.args.name.now items (items_empty (id_json names) ids c.is_empty.result c.is_empty.ensures c.if-is_empty.false) (gains_one _ _ _ _ _ c.in_ok-key.was c.key.ensures) (listed x))
     c.write_ids.ensures
