@@ -1,8 +1,9 @@
 -- About Parts: the places that differ along an operation's path and at its target.
-use Rattle.std.proofs.Common.{◌≡◌, ℕ, ◌+◌, ◌<◌, length, get_or, take, drop, append_assoc, List, [], ◌∷◌, ◌++◌, Bool, true, false, cond, refl, sym, ◌∙◌, ap, subst}
+use Rattle.std.proofs.Common.{◌≡◌, arith, ◌==◌, ℕ, ◌+◌, ◌<◌, length, get_or, take, drop, append_assoc, List, [], ◌∷◌, ◌++◌, Bool, true, false, cond, refl, sym, ◌∙◌, ap, subst}
 use Rattle.std.specs.Ordering.{is_lt}
 use Rattle.std.specs.declared.cmp.Ordering.{Ordering}
 use Rattle.std.specs.declared.cmp.Ordering.TheVariants.{Less, Equal, Greater}
+use Rattle.std.proofs.lemmas.Bool.{eqb-true}
 use Rattle.std.proofs.lemmas.List.{take_more, take-append-drop}
 use Rattle.jc_rules.specs.declared.id.Id.{Id}
 use Rattle.jc_rules.specs.declared.key.Key.{Key}
@@ -37,6 +38,10 @@ pub lost_place : (k : Key) (c d : Context) (own : OwnEffects) (m l rest y : Diff
     → IsDifference (below (MapT k) c) (below (MapT k) d) m → IsDifference (below (ListT k) c) (below (ListT k) d) l → y ≡ with_difference k (own_seen k own) m l rest
     → (ks : List Key) → AreLater k ks → IsDifferenceAmong ks c d rest → IsDifferenceAmong (k ∷ ks) c d y
 lost_place k c d own m l rest y h o mi li e ks later among = subst (IsDifferenceAmong (k ∷ ks) c d) (sym e) (one_more k ks c d (own_seen k own) m l rest later (lost_keeps k c d (h.losses [] k)) o mi li among)
+
+pub empty_is : {X : Type 0} (xs : List X) (n : ℕ) → n ≡ length xs → (n == 0) ≡ true → is_nothing xs ≡ true
+empty_is [] n e f = refl
+empty_is (x ∷ xs) n e f = let none : n ≡ 0 = eqb-true n 0 f in absurd (omega (arith, e, none))
 
 -- and where nothing is lost, since the key keeps its identifiers
 pub kept_place : (k : Key) (c d : Context) (lost : List Id) (rest : Differences) → OnlyLoses c d → lost ≡ without (ids_at k c) (ids_at k d) → is_nothing lost ≡ true

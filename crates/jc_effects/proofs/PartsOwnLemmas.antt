@@ -23,7 +23,7 @@ use Rattle.jc_meaning.proofs.OrdersLemmas.{keys_self}
 use Rattle.jc_effects.specs.declared.entries.Entries.{Entries}
 use Rattle.jc_effects.specs.declared.own.Candidates.{Candidates}
 use Rattle.jc_effects.specs.declared.own.OwnEffects.{OwnEffects}
-use Rattle.jc_effects.specs.Difference.{same_link, values_without, tag_made, link_changed, shown_changed, own_difference}
+use Rattle.jc_effects.specs.Difference.{OwnDifference, same_link, values_without, tag_made, link_changed, shown_changed, own_difference}
 use Rattle.jc_effects.specs.Laws.{IsChangedBy}
 use Rattle.jc_effects.specs.Parts.{own_seen, tags_made, new_tags, pairs_without, AreEntries, AreFound, OnlyLosesAt}
 use Rattle.jc_effects.proofs.PartsAmongLemmas.{nothing_is, value_found, Keeps}
@@ -92,12 +92,12 @@ tags_of_none : (k : Key) (c d : Context) → has_tag (MapT k) d ≡ has_tag (Map
     → [] ≡ tag_made (MapT k) c d ++ tag_made (ListT k) c d ++ tag_made (RegT k) c d
 tags_of_none k c d m l r = λ i. no_tag_made (MapT k) c d m i ++ no_tag_made (ListT k) c d l i ++ no_tag_made (RegT k) c d r i
 
-pub lost_own : (k : Key) (c d : Context) (was now : List Id) (had has : Register) (own : OwnEffects) → OnlyLosesAt k c d
+pub lost_own : (k : Key) (c d : Context) (was now : List Id) (had has : Register) → OnlyLosesAt k c d
     → was ≡ ids_at k c → now ≡ ids_at k d → had ≡ or_no_entries (reg_at k c) → has ≡ or_no_entries (reg_at k d)
-    → own.gained.items ≡ [] → own.lost.items ≡ without was now → tags_made k own.made ≡ [] → own.next ≡ None
-    → own.shown ≡ shown_changed (has_ids was) (has_ids now) → own.taken.items ≡ pairs_without had has → own.written.items ≡ []
-    → own_seen k own ≡ own_difference k c d
-lost_own k c d was now had has own h e f r s g l m n p t w = λ i. record {
+    → (gained lost : List Id) (made : List Tagged) (link : Option (Option Next × Option Next)) (shown : Option Bool) (taken written : Register)
+    → gained ≡ [] → lost ≡ without was now → made ≡ [] → link ≡ None → shown ≡ shown_changed (has_ids was) (has_ids now) → taken ≡ pairs_without had has → written ≡ []
+    → record { gained = gained; lost = lost; made = made; next = link; shown = shown; taken = taken; written = written } ≡ own_difference k c d
+lost_own k c d was now had has h e f r s gained lost made link shown taken written g l m n p t w = λ i. record {
   gained = (g ∙ none_without (ids_at k d) (ids_at k c) h.ids) i;
   lost = (l ∙ (λ j. without (e j) (f j))) i;
   made = (m ∙ tags_of_none k c d h.maps h.lists h.registers) i;
@@ -244,11 +244,11 @@ module _ (o : Op) (c d : Context) (x : IsChangedBy o c d) (P : List Tagged) (k :
   no_change false false e = refl
 
   -- at the key before a new element, which is neither touched nor cleared nor made, the link alone is looked at
-  pub link_own : (own : OwnEffects) → touches o P k ≡ false → clears o P k ≡ false → written_by o P k ≡ None → ((u : Tagged) → same_key k (key_of_tagged u) ≡ true → goes_through o P u ≡ false)
-      → own.gained.items ≡ [] → own.lost.items ≡ [] → tags_made k own.made ≡ [] → own.next ≡ link_changed (next k (seen P c)) (next k (seen P d))
-      → own.shown ≡ None → own.taken.items ≡ [] → own.written.items ≡ []
-      → own_seen k own ≡ own_difference k (seen P c) (seen P d)
-  link_own own untouched uncleared unwritten unmade g l m n p t w = λ i. record {
+  pub link_own : touches o P k ≡ false → clears o P k ≡ false → written_by o P k ≡ None → ((u : Tagged) → same_key k (key_of_tagged u) ≡ true → goes_through o P u ≡ false)
+      → (gained lost : List Id) (made : List Tagged) (link : Option (Option Next × Option Next)) (shown : Option Bool) (taken written : Register)
+      → gained ≡ [] → lost ≡ [] → made ≡ [] → link ≡ link_changed (next k (seen P c)) (next k (seen P d)) → shown ≡ None → taken ≡ [] → written ≡ []
+      → record { gained = gained; lost = lost; made = made; next = link; shown = shown; taken = taken; written = written } ≡ own_difference k (seen P c) (seen P d)
+  link_own untouched uncleared unwritten unmade gained lost made link shown taken written g l m n p t w = λ i. record {
     gained = (g ∙ none_without (ids_at k (seen P d)) (ids_at k (seen P c)) (were_there untouched)) i;
     lost = (l ∙ none_without (ids_at k (seen P c)) (ids_at k (seen P d)) (are_there uncleared)) i;
     made = (m ∙ tags_of_none k (seen P c) (seen P d) (untagged (MapT k) (unmade (MapT k) (keys_self k))) (untagged (ListT k) (unmade (ListT k) (keys_self k))) (untagged (RegT k) (unmade (RegT k) (keys_self k)))) i;
@@ -267,7 +267,7 @@ module _ (o : Op) (c d : Context) (x : IsChangedBy o c d) (P : List Tagged) (X :
   made_on_path (MapT k) e =
       let l = no_tag_made (ListT k) (seen P c) (seen P d) (untagged o c d x P k (ListT k) (passed_on_path o P (MapT k) X e (ListT k))) in
       let r = no_tag_made (RegT k) (seen P c) (seen P d) (untagged o c d x P k (RegT k) (passed_on_path o P (MapT k) X e (RegT k))) in
-      sym (append-nil (cond (has_tag (MapT k) (seen P c)) [] (MapT k ∷ []))) ∙ (λ i. made_there o c d x P k (MapT k) (passed_on_path o P (MapT k) X e (MapT k) ∙ keys_self k) i ++ l i ++ r i)
+      sym (append-nil (cond (has_tag (MapT k) (seen P c)) [] (MapT k ∷ []))) ∙ sym (append-nil (cond (has_tag (MapT k) (seen P c)) [] (MapT k ∷ []) ++ [])) ∙ (λ i. made_there o c d x P k (MapT k) (passed_on_path o P (MapT k) X e (MapT k) ∙ keys_self k) i ++ l i ++ r i)
   made_on_path (ListT k) e =
       let m = no_tag_made (MapT k) (seen P c) (seen P d) (untagged o c d x P k (MapT k) (passed_on_path o P (ListT k) X e (MapT k))) in
       let r = no_tag_made (RegT k) (seen P c) (seen P d) (untagged o c d x P k (RegT k) (passed_on_path o P (ListT k) X e (RegT k))) in
@@ -278,17 +278,17 @@ module _ (o : Op) (c d : Context) (x : IsChangedBy o c d) (P : List Tagged) (X :
       λ i. m i ++ l i ++ made_there o c d x P k (RegT k) (passed_on_path o P (RegT k) X e (RegT k) ∙ keys_self k) i
 
   -- what comes there is the operation's identifier
-  pub path_own : (t : Tagged) (came was now : List Id) (own : OwnEffects) → o.cursor.path ≡ P ++ t ∷ X
+  pub path_own : (t : Tagged) (came was now : List Id) → o.cursor.path ≡ P ++ t ∷ X
       → came ≡ cond (not (is_delete o.mutation)) (o.id ∷ []) [] → was ≡ ids_at (key_of_tagged t) (seen P c) → now ≡ ids_at (key_of_tagged t) (seen P d) → AreRising was → AreRising now
-      → own.gained.items ≡ without came was → own.lost.items ≡ [] → tags_made (key_of_tagged t) own.made ≡ cond (has_tag t (seen P c)) [] (t ∷ []) → own.next ≡ None
-      → own.shown ≡ shown_changed (has_ids was) (has_ids now) → own.taken.items ≡ [] → own.written.items ≡ []
-      → own_seen (key_of_tagged t) own ≡ own_difference (key_of_tagged t) (seen P c) (seen P d)
-  path_own t came was now own e came_is was_is now_is was_rises now_rises g l m n p tk w =
+      → (gained lost : List Id) (made : List Tagged) (link : Option (Option Next × Option Next)) (shown : Option Bool) (taken written : Register)
+      → gained ≡ without came was → lost ≡ [] → made ≡ cond (has_tag t (seen P c)) [] (t ∷ []) → link ≡ None → shown ≡ shown_changed (has_ids was) (has_ids now) → taken ≡ [] → written ≡ []
+      → record { gained = gained; lost = lost; made = made; next = link; shown = shown; taken = taken; written = written } ≡ own_difference (key_of_tagged t) (seen P c) (seen P d)
+  path_own t came was now e came_is was_is now_is was_rises now_rises gained lost made link shown taken written g l m n p tk w =
       let k = key_of_tagged t in
-      let off = (uncleared_on_path o P t X e, unwritten_on_path o P t X e) in
+      let off : (clears o P k ≡ false) × (written_by o P k ≡ None) = (uncleared_on_path o P t X e, unwritten_on_path o P t X e) in
       λ i. record {
         gained = (g ∙ (λ j. without (came_is j) (was_is j)) ∙ gained_is o c d x P k (not (is_delete o.mutation)) (sym (touched_on_path o P t X e)) (subst AreRising was_is was_rises) (subst AreRising now_is now_rises)) i;
-        lost = (l ∙ none_without (ids_at k (seen P c)) (ids_at k (seen P d)) (are_there o c d x P k (uncleared_on_path o P t X e))) i;
+        lost = (l ∙ none_without (ids_at k (seen P c)) (ids_at k (seen P d)) (are_there o c d x P k off.0)) i;
         made = (m ∙ made_on_path t e) i;
         next = (n ∙ no_link (next k (seen P c)) (next k (seen P d)) ((changes o c d x P k).elsewhere P k (off_on_path o P t X e))) i;
         shown = (p ∙ (λ j. shown_changed (has_ids (was_is j)) (has_ids (now_is j)))) i;

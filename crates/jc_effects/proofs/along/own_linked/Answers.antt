@@ -22,8 +22,8 @@ returns g c =
     let old = (g.S.TreeStore.tree c.args.change.now.old.now).now in
     let new = (g.S.TreeStore.tree c.args.change.now.new.now).now in
     let k = c.args.key.now in
-    link_own o old new c.requires.changed o.cursor.path k _ (untouched_at_link o k c.requires.inserts c.requires.other) (uncleared_at_link o k c.requires.inserts c.requires.other) (unwritten_at_link o k c.requires.inserts c.requires.other) (unpassed_at_link o k c.requires.inserts c.requires.other)
-    refl refl refl
+    link_own o old new c.requires.changed o.cursor.path k (untouched_at_link o k c.requires.inserts c.requires.other) (uncleared_at_link o k c.requires.inserts c.requires.other) (unwritten_at_link o k c.requires.inserts c.requires.other) (unpassed_at_link o k c.requires.inserts c.requires.other)
+    _ _ _ _ _ _ _ c.new.ensures.items c.new-2.ensures.items refl
     (c.link_changed.ensures
     ∙ (λ i. link_changed ((c.link_in-was.ensures ∙ ap (λ p. next k (seen p old)) c.as_slice-path.ensures.keys) i) ((c.link_in-now.ensures ∙ ap (λ p. next k (seen p new)) c.as_slice-path.ensures.keys) i)))
-    refl refl refl
+    refl c.new-3.ensures.items c.new-4.ensures.items

@@ -10,7 +10,7 @@ use Rattle.jc_meaning.specs.Seen.{seen}
 use Rattle.jc_meaning.proofs.ClearingEffectsLemmas.{seen_append}
 use Rattle.jc_effects.specs.Difference.{OwnDifference, own_difference, below, IsDifference}
 use Rattle.jc_effects.specs.Parts.{IsNameOf, AreContexts, AreLater, IsDifferenceAmong, OnlyLosesAt, OnlyLoses, own_seen, differences_of}
-use Rattle.jc_effects.proofs.PartsAlongLemmas.{lost_place, kept_place, below_longer, longer_below}
+use Rattle.jc_effects.proofs.PartsAlongLemmas.{empty_is, lost_place, kept_place, below_longer, longer_below}
 use Rattle.jc_effects.proofs.PartsLossesLemmas.{PassedBack, none_new, loses_below, passed_none, passed_one, passed_all, lent_last, emptied}
 use Rattle.jc_effects.proofs.PartsReadLemmas.{IsNew, new_inside, seen_here, smaller_below}
 use Rattle.jc_effects.proofs.below.+below.Goals as goal
@@ -75,7 +75,7 @@ place_below-returns-then-is_empty-clause-difference g t c =
     let k = c.args.key.now in
     let own : own_seen k c.in_ok-own.own ≡ own_difference k (seen c.args.at.now.items old) (seen c.args.at.now.items new) =
     subst (λ (p : List Tagged). own_seen k c.in_ok-own.own ≡ own_difference k (seen p old) (seen p new)) c.as_slice.ensures.value c.in_ok-own.ensures in
-    kept_place k (seen c.args.at.now.items old) (seen c.args.at.now.items new) c.in_ok-own.own.lost.items (differences_of c.args.rest) c.requires.losses (ap (λ (d : OwnDifference). d.lost) own) (sym c.is_empty.ensures ∙ c.if-is_empty.true)
+    kept_place k (seen c.args.at.now.items old) (seen c.args.at.now.items new) c.in_ok-own.own.lost.items (differences_of c.args.rest) c.requires.losses (ap (λ (d : OwnDifference). d.lost) own) (empty_is c.in_ok-own.own.lost.items _ (omega (arith, c.in_ok-own.own.lost.ok.0)) (sym c.is_empty.ensures ∙ c.if-is_empty.true))
 
 pub place_below-returns-clause-difference : goal.place_below-returns-clause-difference
 place_below-returns-clause-difference g t c =

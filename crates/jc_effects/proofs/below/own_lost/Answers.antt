@@ -8,5 +8,5 @@ returns g c =
     let at = c.args.at.now in
     let old = seen at (g.S.TreeStore.tree c.args.change.now.old.now).now in
     let new = seen at (g.S.TreeStore.tree c.args.change.now.new.now).now in
-    lost_own c.args.key.now old new c.ids_in-was.result.now c.ids_in-now.result.now c.pairs_in-had.result.now c.pairs_in-has.result.now _ c.requires.losses c.ids_in-was.ensures.ids c.ids_in-now.ensures.ids c.pairs_in-had.ensures.pairs c.pairs_in-has.ensures.pairs
-    refl c.in_ok-ids_without.ensures refl refl c.shown_between.ensures c.in_ok-pairs_without.ensures refl
+    lost_own c.args.key.now old new c.ids_in-was.result.now c.ids_in-now.result.now c.pairs_in-had.result.now c.pairs_in-has.result.now c.requires.losses c.ids_in-was.ensures.ids c.ids_in-now.ensures.ids c.pairs_in-had.ensures.pairs c.pairs_in-has.ensures.pairs
+    _ _ _ _ _ _ _ c.new.ensures.items c.in_ok-ids_without.ensures refl refl c.shown_between.ensures c.in_ok-pairs_without.ensures c.new-2.ensures.items
