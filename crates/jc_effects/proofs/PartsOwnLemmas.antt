@@ -23,7 +23,7 @@ use Rattle.jc_meaning.proofs.OrdersLemmas.{keys_self}
 use Rattle.jc_effects.specs.declared.entries.Entries.{Entries}
 use Rattle.jc_effects.specs.declared.own.Candidates.{Candidates}
 use Rattle.jc_effects.specs.declared.own.OwnEffects.{OwnEffects}
-use Rattle.jc_effects.specs.Difference.{OwnDifference, same_link, values_without, tag_made, link_changed, shown_changed, own_difference}
+use Rattle.jc_effects.specs.Difference.{same_link, values_without, tag_made, link_changed, shown_changed, own_difference}
 use Rattle.jc_effects.specs.Laws.{IsChangedBy}
 use Rattle.jc_effects.specs.Parts.{own_seen, tags_made, new_tags, pairs_without, AreEntries, AreFound, OnlyLosesAt}
 use Rattle.jc_effects.proofs.PartsAmongLemmas.{nothing_is, value_found, Keeps}

@@ -4,7 +4,6 @@ use Rattle.json.specs.Json.{Items, array}
 use Rattle.json.specs.Tree.{json_tokens}
 use Rattle.jc_effects.specs.EffectsJson.{as_items, id_json}
 use Rattle.jc_json.specs.Gains.{Gains}
-use Rattle.jc_json.specs.Values.{ids_json}
 use Rattle.jc_json.proofs.GainsLemmas.{gains_one}
 use Rattle.jc_effects.proofs.PartsTokensLemmas.{some_written, items_empty, id_items}
 use Rattle.jc_effects.proofs.writing.write_some_ids.Goals as goal
