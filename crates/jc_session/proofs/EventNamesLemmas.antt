@@ -106,7 +106,7 @@ replies_named O A B request reply (N.no_compared none) h = h
 pub answer_named : (O : Origin) (A B : Session) (line : Line) (text : List ℕ) → LineAnswer O A line B text → All (λ x. AreNamed x (length O.names)) A.schedule → All (λ x. AreNamed x (length O.names)) B.schedule
 answer_named O A B line text (N.empty is) h = h
 answer_named O A B line text (N.refused is) h = h
-answer_named O A B line text (N.replies request is replies) h = replies_named O A B request text replies h
+answer_named O A B line text (N.replies {reply} request is replies) h = replies_named O A B request reply replies h
 
 -- ---- events that are stuck
 

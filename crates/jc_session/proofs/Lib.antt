@@ -17,3 +17,4 @@ pub mod DecisionsLemmas
 pub mod MovesDecidedLemmas
 pub mod SomeReplyLemmas
 pub mod SomeTextLemmas
+pub mod OldRepliesLemmas
