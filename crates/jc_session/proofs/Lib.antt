@@ -17,4 +17,3 @@ pub mod DecisionsLemmas
 pub mod MovesDecidedLemmas
 pub mod SomeReplyLemmas
 pub mod SomeTextLemmas
-pub mod OldRepliesLemmas

@@ -1,5 +1,5 @@
 -- What a request, its reply and its answer mean for a debugger in memory: the clauses of replies and answers cite it.
-use Rattle.std.specs.Prelude.{◌≡◌, ℕ, List, length, slice_get, All, Option, Some, None, Result, Ok, Err}
+use Rattle.std.specs.Prelude.{◌≡◌, ℕ, List, length, slice_get, All, Some, None, Result, Ok, Err}
 use Rattle.jc_rules.specs.declared.operation.Event.{Event}
 use Rattle.jc_rules.specs.declared.refusal.Refusal.TheVariants as F
 use Rattle.jc_rules.specs.declared.rule.Rule.{Rule}
