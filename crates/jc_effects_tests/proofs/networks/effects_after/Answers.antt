@@ -1,4 +1,4 @@
-use Rattle.std.proofs.Common.{◌≡◌, sym, subst}
+use Rattle.std.proofs.Common.{◌≡◌, subst}
 use Rattle.jc_rules.specs.Step.{Network, StepIn}
 use Rattle.jc_rules.proofs.VersionLemmas.{one_after_in}
 use Rattle.jc_scenario.specs.Views.{scenario_view}
