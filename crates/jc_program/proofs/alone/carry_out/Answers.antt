@@ -32,7 +32,7 @@ returns-in_err-found-clause-cause g c =
     let n = g.K.Sink.failures c.args.out.now in
     let why = c.in_err-found.field-0.0 in
     passed_on c.from_residual.result (read_fault why) (λ (fault : WorkFault). IsCause fault (unread_of c.args.order.now.file) a b n n) c.from_residual.ensures.1
-    (subst (λ (file : List ℕ). IsCause (read_fault why) (unread_of file) a b n n) c.as_str.ensures (read_cause why (unread_of c.as_str.result.now) a b n (λ e. c.in_err-found.ensures.memory (ap Err e)) (λ e. c.in_err-found.ensures.failed (ap Err e))))
+    (subst (λ (file : List ℕ). IsCause (read_fault why) (unread_of file) a b n n) c.as_str-file.ensures (read_cause why (unread_of c.as_str-file.result.now) a b n (λ e. c.in_err-found.ensures.memory (ap Err e)) (λ e. c.in_err-found.ensures.failed (ap Err e))))
 
 -- the task was executed on it
 pub returns-clause-done : goal.returns-clause-done
@@ -40,7 +40,7 @@ returns-clause-done g c =
     let order = c.args.order.now in
     let texts = g.R.Files.texts c.args.rt.now in
     let input = g.I.Source.left c.args.input.now in
-    let found = subst (λ (file : List ℕ). IsFound (told_by input texts file) c.in_ok-found.found) c.as_str.ensures c.in_ok-found.ensures.found in
+    let found = subst (λ (file : List ℕ). IsFound (told_by input texts file) c.in_ok-found.found) c.as_str-file.ensures c.in_ok-found.ensures.found in
     IfOk-weaker c.execute.result _ (λ (status : ℕ). IsDone order.task (told_by input texts order.file) (lines_by input order.file) (sink g.K.Sink c.args.out.now) (sink g.K.Sink c.execute.new.out) (λ text. Sent text (sink g.E.Sink c.args.err.now) (sink g.E.Sink c.execute.new.err)) status)
     (λ status h. h (told_by input texts order.file) (lines_by input order.file) found) c.execute.ensures.done
 
@@ -50,7 +50,7 @@ returns-clause-stopped g c =
     let texts = g.R.Files.texts c.args.rt.now in
     let input = g.I.Source.left c.args.input.now in
     let left = lines_by (g.I.Source.left c.scenario_in.new.input) order.file in
-    let found = subst (λ (file : List ℕ). IsFound (told_by input texts file) c.in_ok-found.found) c.as_str.ensures c.in_ok-found.ensures.found in
+    let found = subst (λ (file : List ℕ). IsFound (told_by input texts file) c.in_ok-found.found) c.as_str-file.ensures c.in_ok-found.ensures.found in
     IfErr-weaker c.execute.result _ (λ (fault : WorkFault). IsStoppedCommand order.task fault (told_by input texts order.file) (lines_by input order.file) left (sink g.K.Sink c.args.out.now) (sink g.K.Sink c.execute.new.out))
     (λ fault h. h (told_by input texts order.file) (lines_by input order.file) left found) c.execute.ensures.stopped
 

@@ -26,7 +26,7 @@ returns-in_err-refused-in-Err-clause-stopped g c =
     let p = sink g.K.Sink c.refuse.new.out in
     let task = c.args.task in
     let why = c.in_err-refused-in-Err.field-0.0 in
-    passed_on c.from_residual-in_err-refused-in-Err.result (run_fault why) (λ (fault : WorkFault). (told lines left : Option (List ℕ)) → IsFound told c.args.found → IsStoppedCommand task fault told lines left o p) c.from_residual-in_err-refused-in-Err.ensures.1
+    passed_on c.from_residual.result (run_fault why) (λ (fault : WorkFault). (told lines left : Option (List ℕ)) → IsFound told c.args.found → IsStoppedCommand task fault told lines left o p) c.from_residual.ensures.1
     (λ told lines left f. refusal_stops told c.in-Err.fault (subst (λ (r : Result ScenarioValue ScenarioFault). IsFound told r) c.in-Err.is f) o p task lines left why c.requires.alone c.requires.reads (λ e. ap (sink g.K.Sink) (c.in_err-refused-in-Err.ensures.memory (ap Err e))) (λ e. c.in_err-refused-in-Err.ensures.write (ap Err e)))
 
 pub returns-in_err-refused-in-Err-clause-cause : goal.returns-in_err-refused-in-Err-clause-cause
@@ -34,11 +34,11 @@ returns-in_err-refused-in-Err-clause-cause g c =
     let x = g.K.Sink.failures c.args.out.now in
     let y = g.K.Sink.failures c.refuse.new.out in
     let why = c.in_err-refused-in-Err.field-0.0 in
-    passed_on c.from_residual-in_err-refused-in-Err.result (run_fault why) (λ (fault : WorkFault). (n : ℕ) → IsCause fault ⊥ n n x y) c.from_residual-in_err-refused-in-Err.ensures.1
+    passed_on c.from_residual.result (run_fault why) (λ (fault : WorkFault). (n : ℕ) → IsCause fault ⊥ n n x y) c.from_residual.ensures.1
     (run_cause why x y (λ e. ap g.K.Sink.failures (c.in_err-refused-in-Err.ensures.memory (ap Err e))) (λ e. (c.in_err-refused-in-Err.ensures.write (ap Err e)).2.1))
 
-pub returns-in_ok-refused-in-Err-clause-done : goal.returns-in_ok-refused-in-Err-clause-done
-returns-in_ok-refused-in-Err-clause-done g c = λ told lines f.
+pub returns-in-Err-clause-done : goal.returns-in-Err-clause-done
+returns-in-Err-clause-done g c = λ told lines f.
     refused told c.in-Err.fault (subst (λ (r : Result ScenarioValue ScenarioFault). IsFound told r) c.in-Err.is f) (sink g.K.Sink c.args.out.now) (sink g.K.Sink c.refuse.new.out) c.args.task lines (sink g.E.Sink c.args.err.now) (sink g.E.Sink c.args.err.now) c.in_ok-refused-in-Err.refused c.requires.alone c.requires.reads refl c.in_ok-refused-in-Err.ensures.ok
 
 -- ---- a view
