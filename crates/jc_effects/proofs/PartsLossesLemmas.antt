@@ -1,7 +1,8 @@
 -- About Parts: the places that differ in a context in which nothing but losses can be (`OnlyLoses`).
-use Rattle.std.proofs.Common.{◌≡◌, option_to_list, zero, suc, ◌<◌, List, [], ◌∷◌, ◌++◌, append_assoc, length, Bool, true, false, cond, Option, Some, None, is_some, Contains, refl, sym, ◌∙◌, ap, subst, arith}
+use Rattle.std.proofs.Common.{◌≡◌, ◌==◌, option_to_list, zero, suc, ◌<◌, List, [], ◌∷◌, ◌++◌, append_assoc, length, Bool, true, false, cond, Option, Some, None, is_some, Contains, refl, sym, ◌∙◌, ap, subst, arith}
 use Rattle.std.specs.List.{AllByRecursion}
 use Rattle.std.specs.Borrow.{Bor}
+use Rattle.std.proofs.lemmas.Bool.{eqb-true}
 use Rattle.std.proofs.lemmas.List.{append-nil}
 use Rattle.jc_rules.specs.declared.id.Id.{Id}
 use Rattle.jc_rules.specs.declared.key.Key.{Key}
@@ -21,7 +22,7 @@ use Rattle.jc_meaning.proofs.OrdersLemmas.{keys_eq, keys_self}
 use Rattle.jc_meaning.proofs.ClearingEffectsLemmas.{ids_below_new, value_below_new}
 use Rattle.jc_effects.specs.Difference.{Differences, no_difference, below, IsSameAt, IsSameFrom, IsDifference}
 use Rattle.jc_effects.specs.Parts.{OnlyLosesAt, OnlyLoses, AreLater, IsDifferenceAmong}
-use Rattle.jc_effects.proofs.PartsAmongLemmas.{none_among, all_among}
+use Rattle.jc_effects.proofs.PartsAmongLemmas.{none_among, same_more, all_among}
 use Rattle.jc_effects.proofs.PartsReadLemmas.{IsNew}
 
 -- where nothing was, nothing was lost
@@ -126,6 +127,15 @@ pub passed_one : (all left : List Key) (k : Key) (c d : Context) (x y : Differen
 passed_one all left k c d x y rise p step =
     let is : all ≡ left ++ k ∷ p.passed = p.is ∙ append_assoc left (k ∷ []) p.passed in
     record { passed = k ∷ p.passed; is = is; among = step p.passed (later_than left k p.passed (subst (IsRising key_cmp) is rise)) p.among }
+
+-- where nothing was, nothing is lost
+pub passed_empty : (all left : List Key) (k : Key) (c d : Context) (x : Differences) → IsRising key_cmp all → PassedBack all (left ++ k ∷ []) c d x → OnlyLoses c d → ids_at k c ≡ [] → PassedBack all left c d x
+passed_empty all left k c d x rise p h none =
+    passed_one all left k c d x x rise p (λ ks later among. same_more k ks c d x (h.kept [] k (λ i e. let z : false ≡ true = sym (ap (has_id i) none) ∙ e in no_truth z)) among)
+
+pub no_items : {X : Type 0} (xs : List X) (b : Bool) → b ≡ (length xs == 0) → b ≡ true → xs ≡ []
+no_items [] b e f = refl
+no_items (x ∷ xs) b e f = let none : length (x ∷ xs) ≡ 0 = eqb-true (length (x ∷ xs)) 0 (sym e ∙ f) in absurd (omega (arith, none))
 
 pub passed_all : (all : List Key) (c d : Context) (x : Differences) → AllByRecursion (Contains all) (all_keys c) → OnlyLoses c d → PassedBack all [] c d x → IsDifference c d x
 passed_all all c d x keys h p = all_among all c d x (λ k e. other_key k all c keys e d h) (subst (λ ks. IsDifferenceAmong ks c d x) (sym p.is) p.among)

@@ -159,6 +159,10 @@ fn places_below<S: TreeStore>(
     let mut effects = Effects::Nothing;
     let mut keys = change.old.keys_at(change.alloc, place, at.as_slice())?;
     while let Some(lent) = keys.pop() {
+        if ids_in(change.old, contexts.old, at.as_slice(), lent.0, lent.1).is_empty() {
+            // Where nothing was, nothing was lost.
+            continue;
+        }
         effects = place_below(change, contexts, at, lent.0, lent.1, effects)?;
     }
     Ok(effects)

@@ -6,12 +6,12 @@ use Rattle.jc_rules.specs.declared.key.Tagged.{Tagged}
 use Rattle.jc_rules.specs.declared.key.Tagged.TheVariants.{MapT, ListT}
 use Rattle.jc_tree.specs.Tree.{here, all_keys, keys_lent}
 use Rattle.jc_tree.specs.Nested.{nested}
-use Rattle.jc_meaning.specs.Seen.{seen}
+use Rattle.jc_meaning.specs.Seen.{seen, ids_at}
 use Rattle.jc_meaning.proofs.ClearingEffectsLemmas.{seen_append}
 use Rattle.jc_effects.specs.Difference.{OwnDifference, own_difference, below, IsDifference}
 use Rattle.jc_effects.specs.Parts.{IsNameOf, AreContexts, AreLater, IsDifferenceAmong, OnlyLosesAt, OnlyLoses, own_seen, differences_of}
 use Rattle.jc_effects.proofs.PartsAlongLemmas.{empty_is, lost_place, kept_place, below_longer, longer_below}
-use Rattle.jc_effects.proofs.PartsLossesLemmas.{PassedBack, none_new, loses_below, passed_none, passed_one, passed_all, lent_last, emptied}
+use Rattle.jc_effects.proofs.PartsLossesLemmas.{PassedBack, none_new, loses_below, passed_none, passed_one, passed_empty, no_items, passed_all, lent_last, emptied}
 use Rattle.jc_effects.proofs.PartsReadLemmas.{IsNew, new_inside, seen_here, smaller_below}
 use Rattle.jc_effects.proofs.below.+below.Goals as goal
 
@@ -101,6 +101,27 @@ places_below-loop-lent-init g t c = (refl, passed_none _ _ _)
 pub places_below-place_below-requires : goal.places_below-place_below-requires
 places_below-place_below-requires g t c κs within =
     rw c.loop-lent.invariant.0 (omega (arith, c.decreases), (within, (c.requires.contexts, c.requires.losses)))
+
+pub places_below-ids_in-requires : goal.places_below-ids_in-requires
+places_below-ids_in-requires g t c =
+    let before = g.S.TreeStore.tree c.args.change.now.old.now in
+    subst (λ (p : List Tagged). IsNameOf (g.S.TreeStore.names c.args.change.now.old.now) before p c.args.contexts.old) (sym (c.as_slice-in-Some.ensures.value ∙ c.loop-lent.invariant.0)) c.requires.contexts.old
+
+-- nothing was at the key
+pub places_below-loop-lent-preserved-then-is_empty : goal.places_below-loop-lent-preserved-then-is_empty
+places_below-loop-lent-preserved-then-is_empty g t c =
+    let old = (g.S.TreeStore.tree c.args.change.now.old.now).now in
+    let new = (g.S.TreeStore.tree c.args.change.now.new.now).now in
+    let at = c.args.at.now.items in
+    let k = c.in-Some.lent.0.now in
+    let was : c.loop-lent.keys.items ≡ c.pop.new.self.items ++ c.in-Some.lent ∷ [] = c.pop.ensures.items ∙ ap (λ o. c.pop.new.self.items ++ option_to_list o) c.in-Some.is in
+    let left : keys_lent c.loop-lent.keys.items ≡ keys_lent c.pop.new.self.items ++ k ∷ [] = ap keys_lent was ∙ lent_last c.pop.new.self.items c.in-Some.lent in
+    let passed = subst (λ (ks : List Key). PassedBack (keys_lent c.in_ok-keys.keys.items) ks (seen at old) (seen at new) (differences_of c.loop-lent.effects)) left c.loop-lent.invariant.1 in
+    let none : ids_at k (seen at old) ≡ [] =
+    ap (λ (p : List Tagged). ids_at k (seen p old)) (sym (c.as_slice-in-Some.ensures.value ∙ c.loop-lent.invariant.0)) ∙ sym c.ids_in.ensures.ids ∙ no_items c.ids_in.result.now c.is_empty.result c.is_empty.ensures c.if-is_empty.true in (
+      c.loop-lent.invariant.0,
+      passed_empty (keys_lent c.in_ok-keys.keys.items) (keys_lent c.pop.new.self.items) k (seen at old) (seen at new) (differences_of c.loop-lent.effects) c.in_ok-keys.ensures.rising passed c.requires.losses none,
+    )
 
 pub places_below-loop-lent-preserved : goal.places_below-loop-lent-preserved
 places_below-loop-lent-preserved g t c =
