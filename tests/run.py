@@ -7,6 +7,7 @@ import json
 import os
 import re
 import shutil
+import signal
 import subprocess
 import sys
 import tempfile
@@ -355,6 +356,8 @@ def chosen_of(cases, words):
 
 def main():
     os.chdir(ROOT)
+    # Started in the background this may ignore Ctrl-C, and what is tried here would too.
+    signal.signal(signal.SIGINT, signal.default_int_handler)
     parser = streams.Parser(prog="./test", description=ABOUT, epilog=WORDS)
     parser.add_argument("words", metavar="WORD", nargs="*", help="only what has one of these words in its name")
     parser.add_argument("--write", action="store_true",
