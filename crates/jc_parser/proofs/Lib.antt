@@ -47,3 +47,6 @@ mod ScenarioLoopsLemmas
 mod ScenarioAgainLemmas
 mod ScenarioLimitsLemmas
 mod ScenarioLawsLemmas
+mod GrammarAgreesLemmas
+mod GrammarSaidLemmas
+mod GrammarEventsLemmas

@@ -8,6 +8,7 @@ use Rattle.jc_rules.specs.Syntax.{Expr, Cmd, LetIn, SetTo, InsertAfter, DeleteAt
 use Rattle.jc_rules.specs.declared.limits.TheConstants.{MAX_COMMANDS, MAX_SELECTORS}
 use Rattle.jc_parser.specs.declared.fault.ScenarioFault.{ScenarioFault}
 use Rattle.jc_parser.specs.declared.fault.ScenarioFault.TheVariants.{ReservedName, TooManyCommands}
+pub use Rattle.jc_grammar.specs.SymbolTests.{is_misused}
 use Rattle.jc_parser.specs.Symbols.{Symbol}
 use Rattle.jc_parser.specs.ReaderState.{Reading, ReadOutcome, ◌>>=◌, place, begins, has_kind, is_word, reserved, skip}
 use Rattle.jc_parser.specs.PartReaders.{read_value_at, read_name_at, items_at, result_of_read}
@@ -84,11 +85,6 @@ command_at r =
     else update_at r)
 
 -- ---- scripts
-
--- a reserved word that is no keyword at a command's start
-abbrev pub is_misused : Symbol → Bool
-is_misused s =
-    reserved s && (not (is_word (codes "let") s) && (not (is_word (codes "yield") s) && not (is_word (codes "doc") s)))
 
 -- the fault of one command more than there may be
 abbrev pub too_many_commands_at : Reading → ScenarioFault
