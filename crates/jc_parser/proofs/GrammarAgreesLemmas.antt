@@ -12,6 +12,7 @@ use Rattle.jc_grammar.specs.Grammar.{Grammar, symbol, nothing, ◌then◌, ◌or
 use Rattle.jc_grammar.specs.LookAhead.{is_of_any, begins_with_any, first_classes}
 use Rattle.jc_grammar.specs.TreeReader.{TreeOutcome, ◌⟫◌, with_tree, pair_of, refused_at, read_symbol, read_by, read_tree}
 use Rattle.jc_grammar.specs.ScenarioGrammar.{misfit_at}
+use Rattle.jc_grammar.specs.Limits.{either}
 use Rattle.jc_parser.specs.declared.fault.ScenarioFault.{ScenarioFault}
 use Rattle.jc_parser.specs.declared.fault.ScenarioFault.TheVariants.{BadByte, OpenString, BadEscape, LoneSurrogate, BadNumber, TextTooLong, Unexpected, EndOfText, IndexTooLarge, ReservedName, TooManyCommands, TooLongExpression, NotUtf8, NoHeader, SameName, NoReplica, TooManyReplicas, UnknownReplica, TooManyEvents, Memory}
 use Rattle.jc_parser.specs.ReaderState.{Reading, ReadOutcome, ◌>>=◌, begins_with, one, skip}
@@ -70,10 +71,6 @@ agrees_then {g} {h} {view} after k F K = record { same = λ stop s ls. rw (F.sam
     joined : (stop : ℕ) (o : TreeOutcome (ParseTree g)) → (given view stop o >>= λ a. k a.0 a.1) ≡ given (λ (t : ParseTree (g then h)). after t.0 t.1) stop (o ⟫ λ a. read_tree h (misfit_at stop) a.1 a.2 ⟫ with_tree (pair_of a.0))
     joined stop (Ok a) = (K a.0).same stop a.1 a.2 ∙ given_with (pair_of a.0) (λ (t : ParseTree (g then h)). after t.0 t.1) stop (read_tree h (misfit_at stop) a.1 a.2)
     joined stop (Err e) = refl
-
-abbrev pub either : {A B C : Type 0} → (A → C) → (B → C) → A ⊎ B → C
-either f g (inl a) = f a
-either f g (inr b) = g b
 
 -- the next lexeme is one that the grammar begins with, if the test says so
 abbrev pub BeginsBy : Grammar → (Symbol → Bool) → Type 0

@@ -19,6 +19,7 @@ use Rattle.jc_grammar.specs.Guards.{nothing_seen}
 use Rattle.jc_grammar.specs.LookAhead.{is_decided}
 use Rattle.jc_grammar.specs.TreeReader.{read_whole}
 use Rattle.jc_grammar.specs.ScenarioGrammar.{token, keyword, index, in_parens, identifier, common_action, action, event, misfit_at}
+use Rattle.jc_grammar.specs.Limits.{either}
 use Rattle.jc_parser.specs.declared.fault.ScenarioFault.{ScenarioFault}
 use Rattle.jc_parser.specs.declared.fault.ScenarioFault.TheVariants.{Memory}
 use Rattle.jc_parser.specs.ReaderState.{Reading, ReadOutcome, ◌>>=◌, one, skip, named_at}
@@ -39,7 +40,7 @@ use Rattle.jc_parser.proofs.EventsReadLemmas.{reads_spelled, has_limits}
 use Rattle.jc_parser.proofs.EventsLemmas.{whole_ok, whole_err, call_err}
 use Rattle.jc_parser.proofs.EventLawsLemmas.{same_event}
 use Rattle.jc_parser.proofs.GrammarSaidLemmas.{IsExactly, exactly_by, exactly_so, reads_said, whole_same, given_whole, stopped_remembers, same_trees, same_faults}
-use Rattle.jc_parser.proofs.GrammarAgreesLemmas.{given, Agrees, either, agrees_map, agrees_then, agrees_or, agrees_one, agrees_mark, agrees_word, agrees_as, agrees_assoc, or_false}
+use Rattle.jc_parser.proofs.GrammarAgreesLemmas.{given, Agrees, agrees_map, agrees_then, agrees_or, agrees_one, agrees_mark, agrees_word, agrees_as, agrees_assoc, or_false}
 
 pub agrees_name : Agrees (token Name) named named_at
 unfolding named_at

@@ -18,7 +18,10 @@ use Rattle.jc_parser.specs.ReaderState.{Reading, ReadOutcome, ◌>>=◌, stuck_a
 use Rattle.jc_parser.specs.Sentences.{Excess, IsStopped}
 use Rattle.jc_parser.specs.PartReaders.{result_of_read}
 use Rattle.jc_parser.specs.GrammarClaims.{IsSaid, IsTextFault, IsSaidFault}
+use Rattle.jc_parser.proofs.ReaderStateLemmas.{Reads}
 use Rattle.jc_parser.proofs.PartsReadLemmas.{reading}
+use Rattle.jc_parser.proofs.SentencesLemmas.{Spelling, ReadsSpelled, one_sentence, sentence_ok, sentence_err}
+use Rattle.jc_parser.proofs.SentenceLawsLemmas.{HasLimits, no_stop, one_stop}
 use Rattle.jc_parser.proofs.GrammarAgreesLemmas.{refusal_as, fault_as, given, Agrees}
 
 -- ---- faults of both types
@@ -172,3 +175,13 @@ stopped_remembers L W V own r s =
       | inl m ↦ stuck_remembers r.stop s.after m.is
       | inr o ↦ own (symbols s.before) s.after o
     ]
+
+-- ---- sentences by their definitions
+
+pub sentence_exactly : {T : Type 0} {L : T → List Symbol → Type 0} {W : T → Type 0} {V : Excess} {f : Reading → ReadOutcome T} → Reads (Spelling L W) V f → ReadsSpelled L W f → HasLimits L W V f → (r : Reading)
+    → IsExactly (λ t. L t (symbols r.left) × W t) (IsStopped L W V r) (f r >>= result_of_read)
+sentence_exactly {T} {L} {W} {V} {f} F again limits r =
+    exactly_by (f r >>= result_of_read) (λ t h. sentence_ok F r t h) (λ e h. sentence_err F again r e h)
+    (λ a b one two. one_sentence L W f again (symbols r.left) a b one.1 one.0 two.0)
+    (λ a e is s. no_stop L W V f again limits r a e is.0 is.1 s)
+    (λ d e one two. one_stop L W V f again limits r d e one two)

@@ -50,3 +50,4 @@ mod ScenarioLawsLemmas
 mod GrammarAgreesLemmas
 mod GrammarSaidLemmas
 mod GrammarEventsLemmas
+mod GrammarExpressionsLemmas

@@ -16,6 +16,7 @@ use Rattle.jc_grammar.specs.SymbolTests.{value_of_symbol, numeral_value}
 use Rattle.jc_grammar.specs.Guards.{Guard, new_replica, no_selector, no_command, no_event}
 use Rattle.jc_grammar.specs.Grammar.{Grammar, nothing, ◌then◌, ◌or◌, ParseTree, listed, chained, repeated}
 use Rattle.jc_grammar.specs.ScenarioGrammar.{token, keyword, in_parens, index, selector, root_but, selector_dot, expression, literal, assignment, ending, change, binding, command, script, identifier, common_action, action, event, events, block, blocks, replica, body, scenario}
+use Rattle.jc_grammar.specs.Limits.{either}
 use Rattle.jc_parser.specs.Scenarios.{Part, NamedTree}
 use Rattle.jc_parser.specs.ScenarioReader.{tree, with_replica_part}
 
@@ -39,11 +40,9 @@ inside g t = t.1.0
 -- the items of a list, one past its limit too
 unfoldable pub items_of : {A : Type 0} (n : ℕ) (c : Guard) (x y : Grammar) → (ParseTree x → A) → ParseTree (listed n c x y) → List A
 unfolding listed
-items_of zero c x y item (inl t) = item t ∷ []
-items_of zero c x y item (inr end) = []
-items_of (suc n) c x y item (inl (t, inl (mark, more))) = item t ∷ items_of n c x y item more
-items_of (suc n) c x y item (inl (t, inr end)) = item t ∷ []
-items_of (suc n) c x y item (inr end) = []
+items_of zero c x y item = either (λ t. item t ∷ []) (λ end. [])
+items_of (suc n) c x y item =
+    either (λ t. item t.0 ∷ either (λ more. items_of n c x y item more.1) (λ end. []) t.1) (λ end. [])
 
 -- ---- expressions
 
@@ -61,10 +60,8 @@ root_of_tree words (inr x) = Variable (value_of x)
 -- an expression, and the selectors behind it, one past the limit too
 unfoldable pub path_of_tree : (n : ℕ) → Expr → ParseTree (repeated n no_selector selector_dot selector nothing) → Expr
 unfolding repeated
-path_of_tree zero e (inl t) = selected e t.1
-path_of_tree zero e (inr end) = e
-path_of_tree (suc n) e (inl t) = path_of_tree n (selected e t.1.0) t.1.1
-path_of_tree (suc n) e (inr end) = e
+path_of_tree zero e = either (λ t. selected e t.1) (λ end. e)
+path_of_tree (suc n) e = either (λ t. path_of_tree n (selected e t.1.0) t.1.1) (λ end. e)
 
 abbrev pub expression_of_tree : ParseTree expression → Expr
 expression_of_tree t = path_of_tree MAX_SELECTORS (root_of_tree (codes "doc" ∷ []) t.0) t.1
@@ -85,16 +82,16 @@ abbrev pub ending_of_tree : Expr → ParseTree ending → Cmd
 ending_of_tree e (inl t) = InsertAfter e (value_of_tree (inside literal t.1))
 ending_of_tree e (inr x) = DeleteAt e
 
--- An expression, and what is behind it. A selector past the limit is refused and has no command: the tree of it is that
--- of no text.
+abbrev pub assignment_of_tree : Expr → ParseTree assignment → Cmd
+assignment_of_tree e t = SetTo e (value_of_tree t.1)
+
+-- An expression, and what is behind it. A selector past the limit is refused: such a tree is that of no text, and any
+-- command would do.
 unfoldable pub change_of_tree : (n : ℕ) → Expr → ParseTree (chained n no_selector selector_dot selector assignment ending) → Cmd
 unfolding chained
-change_of_tree zero e (inl (mark, inl t)) = Yield
-change_of_tree zero e (inl (mark, inr t)) = ending_of_tree e t
-change_of_tree zero e (inr t) = SetTo e (value_of_tree t.1)
-change_of_tree (suc n) e (inl (mark, inl t)) = change_of_tree n (selected e t.0) t.1
-change_of_tree (suc n) e (inl (mark, inr t)) = ending_of_tree e t
-change_of_tree (suc n) e (inr t) = SetTo e (value_of_tree t.1)
+change_of_tree zero e = either (λ t. either (λ past. Yield) (ending_of_tree e) t.1) (assignment_of_tree e)
+change_of_tree (suc n) e =
+    either (λ t. either (λ more. change_of_tree n (selected e more.0) more.1) (ending_of_tree e) t.1) (assignment_of_tree e)
 
 abbrev pub command_of_tree : ParseTree command → Cmd
 command_of_tree (inl x) = Yield
@@ -165,10 +162,9 @@ unfoldable pub tail_of_tree :
     → ParseTree (repeated n (new_replica MAX_REPLICAS) (keyword (codes "replica")) replica (blocks v))
     → NamedTree
 unfolding repeated
-tail_of_tree v zero (inl t) = tree v (replica_of_tree t.1 ∷ []) [] []
-tail_of_tree v zero (inr t) = blocks_of_tree v t
-tail_of_tree v (suc n) (inl t) = with_replica_part (replica_of_tree t.1.0) (tail_of_tree v n t.1.1)
-tail_of_tree v (suc n) (inr t) = blocks_of_tree v t
+tail_of_tree v zero = either (λ t. tree v (replica_of_tree t.1 ∷ []) [] []) (blocks_of_tree v)
+tail_of_tree v (suc n) =
+    either (λ t. with_replica_part (replica_of_tree t.1.0) (tail_of_tree v n t.1.1)) (blocks_of_tree v)
 
 abbrev pub body_of_tree : (v : Version) → ParseTree (body v) → NamedTree
 body_of_tree v t = with_replica_part (replica_of_tree t.1.0) (tail_of_tree v (MAX_REPLICAS - 1) t.1.1)

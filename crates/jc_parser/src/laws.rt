@@ -6,7 +6,7 @@ ghost use Rattle.jc_parser.specs.ClosedScripts.{OneScriptAt, ScriptOrFaultAt, Sc
 ghost use Rattle.jc_parser.specs.EventLaws.{OneEvent, EventOrFault, EventElseFault, OneEventFault, OneEventAt, EventOrFaultAt, EventElseFaultAt, OneEventFaultAt};
 ghost use Rattle.jc_parser.specs.ScenarioLaws.{OneNamedTree, NamedTreeOrFault, NamedTreeElseFault, OneTreeFault};
 ghost use Rattle.jc_parser.specs.LegalSymbolLaws.{LegalExpressions, LegalScripts, LegalEvents, LegalScriptsAt, LegalEventsAt, LegalScenarios};
-ghost use Rattle.jc_parser.specs.GrammarLaws.{SameEvents, SameEventFaults};
+ghost use Rattle.jc_parser.specs.GrammarLaws.{SameExpressions, SameExpressionFaults, SameEvents, SameEventFaults};
 
 use jc_syntax::laws as lexemes;
 
@@ -206,6 +206,16 @@ pub fn legal_scenarios()
 {
     lexemes::legal_strings();
 }
+
+/// Lexemes are an expression where the language as one value says so.
+pub fn same_expressions()
+    ensures { SameExpressions }
+{}
+
+/// Lexemes have a fault as an expression where the language as one value says so.
+pub fn same_expression_faults()
+    ensures { SameExpressionFaults }
+{}
 
 /// Lexemes are an event where the language as one value says so.
 pub fn same_events()
