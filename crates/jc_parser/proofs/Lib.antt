@@ -51,3 +51,5 @@ mod GrammarAgreesLemmas
 mod GrammarSaidLemmas
 mod GrammarEventsLemmas
 mod GrammarExpressionsLemmas
+mod GrammarListsLemmas
+mod GrammarScriptsLemmas

@@ -6,7 +6,7 @@ ghost use Rattle.jc_parser.specs.ClosedScripts.{OneScriptAt, ScriptOrFaultAt, Sc
 ghost use Rattle.jc_parser.specs.EventLaws.{OneEvent, EventOrFault, EventElseFault, OneEventFault, OneEventAt, EventOrFaultAt, EventElseFaultAt, OneEventFaultAt};
 ghost use Rattle.jc_parser.specs.ScenarioLaws.{OneNamedTree, NamedTreeOrFault, NamedTreeElseFault, OneTreeFault};
 ghost use Rattle.jc_parser.specs.LegalSymbolLaws.{LegalExpressions, LegalScripts, LegalEvents, LegalScriptsAt, LegalEventsAt, LegalScenarios};
-ghost use Rattle.jc_parser.specs.GrammarLaws.{SameExpressions, SameExpressionFaults, SameEvents, SameEventFaults};
+ghost use Rattle.jc_parser.specs.GrammarLaws.{SameExpressions, SameExpressionFaults, SameScripts, SameScriptFaults, SameEvents, SameEventFaults};
 
 use jc_syntax::laws as lexemes;
 
@@ -215,6 +215,16 @@ pub fn same_expressions()
 /// Lexemes have a fault as an expression where the language as one value says so.
 pub fn same_expression_faults()
     ensures { SameExpressionFaults }
+{}
+
+/// Lexemes are a script where the language as one value says so.
+pub fn same_scripts()
+    ensures { SameScripts }
+{}
+
+/// Lexemes have a fault as a script where the language as one value says so.
+pub fn same_script_faults()
+    ensures { SameScriptFaults }
 {}
 
 /// Lexemes are an event where the language as one value says so.
