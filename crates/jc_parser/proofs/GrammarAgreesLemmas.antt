@@ -57,20 +57,25 @@ pub given_with : {T U A : Type 0} (m : T → U) (view : U → A) (stop : ℕ) (o
 given_with m view stop (Ok a) = refl
 given_with m view stop (Err e) = refl
 
+-- what is made of what is read
+pub given_map : {T A B : Type 0} (m : A → B) (view : T → A) (stop : ℕ) (o : TreeOutcome T) → (given view stop o >>= λ a. Ok (m a.0, a.1)) ≡ given (λ t. m (view t)) stop o
+given_map m view stop (Ok a) = refl
+given_map m view stop (Err e) = refl
+
 pub agrees_map : {g : Grammar} {A B : Type 0} {view : ParseTree g → A} {f : Reading → ReadOutcome A} (m : A → B) → Agrees g view f → Agrees g (λ t. m (view t)) (λ r. f r >>= λ a. Ok (m a.0, a.1))
-agrees_map {g} {view} m F = record { same = λ stop s ls. rw (F.same stop s ls) (mapped stop (read_tree g (misfit_at stop) s ls)) }
-  where
-    mapped : (stop : ℕ) (o : TreeOutcome (ParseTree g)) → (given view stop o >>= λ a. Ok (m a.0, a.1)) ≡ given (λ t. m (view t)) stop o
-    mapped stop (Ok a) = refl
-    mapped stop (Err e) = refl
+agrees_map {g} {view} m F = record { same = λ stop s ls. rw (F.same stop s ls) (given_map m view stop (read_tree g (misfit_at stop) s ls)) }
+
+-- one part after another, where the second may depend on what the guards remember of the first
+pub then_same : {T A B : Type 0} (h : Grammar) {view : T → A} (after : T → ParseTree h → B) (k : A → Reading → ReadOutcome B) (stop : ℕ) (o : TreeOutcome T)
+    → ((a : T) (own : GuardState) (rest : List Lexeme) → o ≡ Ok (a, own, rest) → k (view a) (reading stop rest) ≡ given (after a) stop (read_tree h (misfit_at stop) own rest))
+    → (given view stop o >>= λ a. k a.0 a.1) ≡ given (λ (t : T × ParseTree h). after t.0 t.1) stop (o ⟫ λ a. read_tree h (misfit_at stop) a.1 a.2 ⟫ with_tree (pair_of a.0))
+then_same {T} {A} {B} h after k stop (Ok (a, own, rest)) K = K a own rest refl ∙ given_with (pair_of a) (λ (t : T × ParseTree h). after t.0 t.1) stop (read_tree h (misfit_at stop) own rest)
+then_same h after k stop (Err e) K = refl
 
 pub agrees_then : {g h : Grammar} {A B : Type 0} {view : ParseTree g → A} {f : Reading → ReadOutcome A} (after : ParseTree g → ParseTree h → B) (k : A → Reading → ReadOutcome B) → Agrees g view f → ((a : ParseTree g) → Agrees h (after a) (k (view a)))
     → Agrees (g then h) (λ t. after t.0 t.1) (λ r. f r >>= λ a. k a.0 a.1)
-agrees_then {g} {h} {view} after k F K = record { same = λ stop s ls. rw (F.same stop s ls) (joined stop (read_tree g (misfit_at stop) s ls)) }
-  where
-    joined : (stop : ℕ) (o : TreeOutcome (ParseTree g)) → (given view stop o >>= λ a. k a.0 a.1) ≡ given (λ (t : ParseTree (g then h)). after t.0 t.1) stop (o ⟫ λ a. read_tree h (misfit_at stop) a.1 a.2 ⟫ with_tree (pair_of a.0))
-    joined stop (Ok a) = (K a.0).same stop a.1 a.2 ∙ given_with (pair_of a.0) (λ (t : ParseTree (g then h)). after t.0 t.1) stop (read_tree h (misfit_at stop) a.1 a.2)
-    joined stop (Err e) = refl
+agrees_then {g} {h} {view} after k F K =
+    record { same = λ stop s ls. rw (F.same stop s ls) (then_same h after k stop (read_tree g (misfit_at stop) s ls) (λ a own rest read. (K a).same stop own rest)) }
 
 -- the next lexeme is one that the grammar begins with, if the test says so
 abbrev pub BeginsBy : Grammar → (Symbol → Bool) → Type 0

@@ -165,7 +165,7 @@ whole_same {A} {g} {view} F stop ls = ap (λ (o : ReadOutcome A). o >>= result_o
 
 -- ---- no text has the fault that memory ran out
 
-stuck_remembers : (stop : ℕ) (after : List Lexeme) → Memory ≡ stuck_at stop after → ⊥
+pub stuck_remembers : (stop : ℕ) (after : List Lexeme) → Memory ≡ stuck_at stop after → ⊥
 stuck_remembers stop [] e = absurd cc
 stuck_remembers stop (x ∷ xs) e = absurd cc
 

@@ -318,7 +318,7 @@ read_same : (r : Reading) → only_script_at r ≡ given_whole script_of_tree (r
 unfolding only_script_at
 read_same r = whole_same agrees_script r.stop r.left
 
-no_memory : (xs : List Symbol) (after : List Lexeme) → IsScriptExcess Memory xs after → ⊥
+pub no_memory : (xs : List Symbol) (after : List Lexeme) → IsScriptExcess Memory xs after → ⊥
 no_memory xs after (inl next) = next
 no_memory xs after (inr (inl o)) = o.excess
 no_memory xs after (inr (inr o)) = o.excess

@@ -53,3 +53,5 @@ mod GrammarEventsLemmas
 mod GrammarExpressionsLemmas
 mod GrammarListsLemmas
 mod GrammarScriptsLemmas
+mod GrammarStatesLemmas
+mod GrammarScenariosLemmas

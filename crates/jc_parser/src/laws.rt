@@ -6,7 +6,7 @@ ghost use Rattle.jc_parser.specs.ClosedScripts.{OneScriptAt, ScriptOrFaultAt, Sc
 ghost use Rattle.jc_parser.specs.EventLaws.{OneEvent, EventOrFault, EventElseFault, OneEventFault, OneEventAt, EventOrFaultAt, EventElseFaultAt, OneEventFaultAt};
 ghost use Rattle.jc_parser.specs.ScenarioLaws.{OneNamedTree, NamedTreeOrFault, NamedTreeElseFault, OneTreeFault};
 ghost use Rattle.jc_parser.specs.LegalSymbolLaws.{LegalExpressions, LegalScripts, LegalEvents, LegalScriptsAt, LegalEventsAt, LegalScenarios};
-ghost use Rattle.jc_parser.specs.GrammarLaws.{SameExpressions, SameExpressionFaults, SameScripts, SameScriptFaults, SameEvents, SameEventFaults};
+ghost use Rattle.jc_parser.specs.GrammarLaws.{SameExpressions, SameExpressionFaults, SameScripts, SameScriptFaults, SameEvents, SameEventFaults, SameScenarios, SameScenarioFaults};
 
 use jc_syntax::laws as lexemes;
 
@@ -235,4 +235,14 @@ pub fn same_events()
 /// Lexemes have a fault as an event where the language as one value says so.
 pub fn same_event_faults()
     ensures { SameEventFaults }
+{}
+
+/// Lexemes are a scenario where the language as one value says so.
+pub fn same_scenarios()
+    ensures { SameScenarios }
+{}
+
+/// Lexemes have a fault as a scenario where the language as one value says so.
+pub fn same_scenario_faults()
+    ensures { SameScenarioFaults }
 {}
