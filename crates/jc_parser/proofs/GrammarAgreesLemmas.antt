@@ -1,16 +1,16 @@
 -- About `TreeReader` of `jc_grammar`: a reader written by hand reads what a grammar's reader reads, whatever the guards
 -- remember.
-use Rattle.std.proofs.Common.{◌≡◌, ◌≢◌, ℕ, zero, suc, ◌⊎◌, inl, inr, Bool, true, false, ◌||◌, cond, List, [], ◌∷◌, Option, Some, Result, Ok, Err, refl, sym, ap, ◌∙◌}
+use Rattle.std.proofs.Common.{◌≡◌, ℕ, inl, inr, Bool, true, false, ◌||◌, cond, List, [], ◌∷◌, Ok, Err, refl, ap, ◌∙◌}
 use Rattle.jc_rules.specs.declared.refusal.Refusal.{Refusal}
 use Rattle.jc_rules.specs.declared.refusal.Refusal.TheVariants as refusals
 use Rattle.jc_syntax.specs.declared.token.TokenKind.{TokenKind}
 use Rattle.jc_grammar.specs.Symbols.{Symbol, Lexeme}
 use Rattle.jc_grammar.specs.SymbolTests.{has_kind, is_word}
 use Rattle.jc_grammar.specs.Classes.{Class, is_of, any, the_word}
-use Rattle.jc_grammar.specs.Guards.{TextFault, Misfit, GuardState, Guard, Verdict, refuses, passes, verdict_of}
-use Rattle.jc_grammar.specs.Grammar.{Grammar, symbol, nothing, ◌then◌, ◌or◌, guarded, ParseTree, NoticedFault, verdict_at}
+use Rattle.jc_grammar.specs.Guards.{TextFault, GuardState}
+use Rattle.jc_grammar.specs.Grammar.{Grammar, symbol, nothing, ◌then◌, ◌or◌, ParseTree}
 use Rattle.jc_grammar.specs.LookAhead.{is_of_any, begins_with_any, first_classes}
-use Rattle.jc_grammar.specs.TreeReader.{TreeOutcome, ◌⟫◌, with_tree, pair_of, refused_at, read_symbol, read_by, read_tree}
+use Rattle.jc_grammar.specs.TreeReader.{TreeOutcome, ◌⟫◌, with_tree, pair_of, refused_at, read_symbol, read_tree}
 use Rattle.jc_grammar.specs.ScenarioGrammar.{misfit_at}
 use Rattle.jc_grammar.specs.Limits.{either}
 use Rattle.jc_parser.specs.declared.fault.ScenarioFault.{ScenarioFault}

@@ -1,6 +1,6 @@
 -- About `GrammarTrees`: the readers of events read what the grammar's reader reads, and so the two say the same.
-use Rattle.std.proofs.Common.{◌≡◌, ℕ, inl, inr, ◌⊎◌, true, false, List, [], ◌∷◌, Result, Ok, Err, refl, sym, ap, ◌∙◌}
-use Rattle.std.specs.Prelude.{codes, nat_lt, IfOk, IfErr, ◌≢◌}
+use Rattle.std.proofs.Common.{◌≡◌, ℕ, inl, inr, ◌⊎◌, true, List, [], ◌∷◌, Result, Ok, Err, refl, sym, ap, ◌∙◌}
+use Rattle.std.specs.Prelude.{codes, nat_lt}
 use Rattle.std.proofs.lemmas.Bool.{cases_Bool}
 use Rattle.jc_rules.specs.declared.version.Version.{Version}
 use Rattle.jc_rules.specs.declared.version.Version.TheVariants.{One, Two}
@@ -16,13 +16,12 @@ use Rattle.jc_grammar.specs.Grammar.{◌then◌, ParseTree}
 use Rattle.jc_grammar.specs.TreeReader.{read_tree}
 use Rattle.jc_grammar.proofs.ScenarioGrammarLemmas.{scenarios_decided}
 use Rattle.jc_grammar.specs.Guards.{nothing_seen}
-use Rattle.jc_grammar.specs.LookAhead.{is_decided}
 use Rattle.jc_grammar.specs.TreeReader.{read_whole}
 use Rattle.jc_grammar.specs.ScenarioGrammar.{token, keyword, index, in_parens, identifier, common_action, action, event, misfit_at}
 use Rattle.jc_grammar.specs.Limits.{either}
 use Rattle.jc_parser.specs.declared.fault.ScenarioFault.{ScenarioFault}
 use Rattle.jc_parser.specs.declared.fault.ScenarioFault.TheVariants.{Memory}
-use Rattle.jc_parser.specs.ReaderState.{Reading, ReadOutcome, ◌>>=◌, one, skip, named_at}
+use Rattle.jc_parser.specs.ReaderState.{Reading, ◌>>=◌, one, skip, named_at}
 use Rattle.jc_parser.specs.ExpressionReader.{index_at}
 use Rattle.jc_parser.specs.EventReader.{last_name_at, sender_at, last_identifier_at, taking_at, application_at, common_action_at, action_at, any_event_at}
 use Rattle.jc_parser.specs.EventReader.{only_event_at}
@@ -30,7 +29,7 @@ use Rattle.jc_parser.specs.PartReaders.{result_of_read}
 use Rattle.jc_parser.specs.Events.{call_of, IsCallSpelled, IsCallWellFormed, IsCallExcess, IsEvent}
 use Rattle.jc_parser.specs.Sentences.{IsStopped}
 use Rattle.jc_parser.specs.GrammarClaims.{IsSaidEvent, IsSaidEventFault}
-use Rattle.jc_parser.specs.GrammarLaws.{SameEvents, SameEventFaults}
+use Rattle.jc_parser.specs.GrammarLaws.{IsReadAs, SameEvents, SameEventFaults}
 use Rattle.jc_parser.specs.GrammarTrees.{number_of, named, inside, counter_of, author_of, taken, take_of_tree, common_of_tree, action_of_tree, event_of_tree}
 use Rattle.jc_parser.proofs.PartsReadLemmas.{reading, at_place, IsPast, not_past}
 use Rattle.jc_parser.proofs.SentencesLemmas.{one_sentence}
@@ -39,7 +38,7 @@ use Rattle.jc_parser.proofs.EventReaderLemmas.{call_at}
 use Rattle.jc_parser.proofs.EventsReadLemmas.{reads_spelled, has_limits}
 use Rattle.jc_parser.proofs.EventsLemmas.{whole_ok, whole_err, call_err}
 use Rattle.jc_parser.proofs.EventLawsLemmas.{same_event}
-use Rattle.jc_parser.proofs.GrammarSaidLemmas.{IsExactly, exactly_by, exactly_so, reads_said, whole_same, given_whole, stopped_remembers, same_trees, same_faults}
+use Rattle.jc_parser.proofs.GrammarSaidLemmas.{IsExactly, exactly_by, exactly_so, reads_said, reads_as, whole_same, given_whole, stopped_remembers, same_trees, same_faults}
 use Rattle.jc_parser.proofs.GrammarAgreesLemmas.{given, Agrees, agrees_map, agrees_then, agrees_or, agrees_one, agrees_mark, agrees_word, agrees_as, agrees_assoc, or_false}
 
 pub agrees_name : Agrees (token Name) named named_at
@@ -170,11 +169,14 @@ read_same v r = whole_same (agrees_event v) r.stop r.left
 no_memory : (v : Version) (xs : List Symbol) (after : List Lexeme) → IsCallExcess v Memory xs after → ⊥
 no_memory v xs after excess = excess
 
+pub remembers : (v : Version) (r : Reading) → only_event_at v r ≡ Err Memory → ⊥
+remembers v r h = stopped_remembers (IsCallSpelled v) IsCallWellFormed (IsCallExcess v) (no_memory v) r (whole_err v r Memory h)
+
 pub said : (v : Version) (r : Reading) → IsExactly (IsSaidEvent v r.left) (IsSaidEventFault v r) (only_event_at v r)
-said v r =
-    exactly_so (only_event_at v r) (read_same v r)
-    (reads_said (event v) (scenarios_decided.2 v) (misfit_at r.stop) (event_of_tree v) r.left
-    (λ h. stopped_remembers (IsCallSpelled v) IsCallWellFormed (IsCallExcess v) (no_memory v) r (whole_err v r Memory (read_same v r ∙ h))))
+said v r = exactly_so (only_event_at v r) (read_same v r) (reads_said (event v) (scenarios_decided.2 v) (misfit_at r.stop) (event_of_tree v) r.left (λ h. remembers v r (read_same v r ∙ h)))
+
+pub read_as_said : (v : Version) (r : Reading) → IsReadAs (event_of_tree v) (read_whole (event v) (misfit_at r.stop) nothing_seen r.left) (only_event_at v r)
+read_as_said v r = reads_as (event_of_tree v) (read_whole (event v) (misfit_at r.stop) nothing_seen r.left) (only_event_at v r) (read_same v r) (remembers v r)
 
 pub same_events : SameEvents
 same_events v ls e = same_trees (said v (reading 0 ls)) (defined v (reading 0 ls)) e

@@ -1,16 +1,16 @@
 -- About `GrammarTrees`: the readers of expressions read what the grammar's reader reads, and so the two say the same.
-use Rattle.std.proofs.Common.{◌≡◌, ℕ, zero, suc, ◌⊎◌, inl, inr, Bool, true, false, ◌||◌, cond, List, [], ◌∷◌, Result, Ok, Err, refl, sym, ap, subst, ◌∙◌}
-use Rattle.std.specs.Prelude.{codes, not}
+use Rattle.std.proofs.Common.{◌≡◌, ℕ, zero, suc, inl, inr, Bool, true, false, ◌||◌, cond, List, [], ◌∷◌, Ok, Err, refl, sym, ap, subst, ◌∙◌}
+use Rattle.std.specs.Prelude.{codes}
 use Rattle.std.specs.Str.{bytes_eq}
 use Rattle.std.proofs.lemmas.Bool.{cases_Bool}
-use Rattle.jc_rules.specs.Syntax.{Expr, TheDoc, Variable}
+use Rattle.jc_rules.specs.Syntax.{Expr}
 use Rattle.jc_rules.specs.declared.limits.TheConstants.{MAX_SELECTORS}
-use Rattle.jc_syntax.specs.declared.token.TokenKind.TheVariants.{Name, Str, Dot, ParenL, ParenR}
+use Rattle.jc_syntax.specs.declared.token.TokenKind.TheVariants.{Str, Dot, ParenL, ParenR}
 use Rattle.jc_grammar.specs.Symbols.{Symbol, word, Lexeme, symbols}
-use Rattle.jc_grammar.specs.SymbolTests.{has_kind, is_word, is_reserved, reserved}
-use Rattle.jc_grammar.specs.Classes.{Class, any, other_word}
+use Rattle.jc_grammar.specs.SymbolTests.{has_kind, is_word, is_reserved}
+use Rattle.jc_grammar.specs.Classes.{any}
 use Rattle.jc_grammar.specs.Guards.{GuardState, nothing_seen, no_selector}
-use Rattle.jc_grammar.specs.Grammar.{Grammar, nothing, ◌then◌, ◌or◌, guarded, ParseTree, repeated}
+use Rattle.jc_grammar.specs.Grammar.{nothing, ◌then◌, ◌or◌, guarded, ParseTree, repeated}
 use Rattle.jc_grammar.specs.LookAhead.{is_of_any, first_classes}
 use Rattle.jc_grammar.specs.TreeReader.{TreeOutcome, ◌⟫◌, with_tree, pair_of, read_tree, read_whole}
 use Rattle.jc_grammar.specs.ScenarioGrammar.{token, keyword, in_parens, index, selector, root_but, selector_dot, expression, misfit_at}
@@ -18,22 +18,22 @@ use Rattle.jc_grammar.proofs.ScenarioGrammarLemmas.{scenarios_decided}
 use Rattle.jc_grammar.specs.Limits.{either}
 use Rattle.jc_parser.specs.declared.fault.ScenarioFault.{ScenarioFault}
 use Rattle.jc_parser.specs.declared.fault.ScenarioFault.TheVariants.{TooLongExpression, Memory}
-use Rattle.jc_parser.specs.ReaderState.{Reading, ReadOutcome, ◌>>=◌, stuck_at, begins_with, one, skip, take, named_at}
-use Rattle.jc_parser.specs.PartReaders.{get_at, own_name_at, read_name_at, result_of_read}
+use Rattle.jc_parser.specs.ReaderState.{Reading, ◌>>=◌, stuck_at, begins_with, one, skip, take, named_at}
+use Rattle.jc_parser.specs.PartReaders.{get_at, read_name_at}
 use Rattle.jc_parser.specs.Expressions.{Selector, by_key, by_index, by_keys, by_values, is_selector, extended, IsExpressionText, IsWellFormedExpression}
-use Rattle.jc_parser.specs.ExpressionReader.{index_at, key_selector_at, index_selector_at, step_at, Chain, chain_at, undotted, doc_at, variable_at, root_at, expression_at, only_expression_at}
+use Rattle.jc_parser.specs.ExpressionReader.{index_at, key_selector_at, index_selector_at, step_at, chain_at, undotted, doc_at, variable_at, root_at, expression_at, only_expression_at}
 use Rattle.jc_parser.specs.ExpressionFaults.{IsExpressionExcess}
 use Rattle.jc_parser.specs.Sentences.{IsStopped}
 use Rattle.jc_parser.specs.GrammarTrees.{value_of, number_of, inside, selected, root_of_tree, path_of_tree, expression_of_tree}
 use Rattle.jc_parser.specs.GrammarClaims.{IsSaidExpression, IsSaidExpressionFault}
-use Rattle.jc_parser.specs.GrammarLaws.{SameExpressions, SameExpressionFaults}
+use Rattle.jc_parser.specs.GrammarLaws.{IsReadAs, SameExpressions, SameExpressionFaults}
 use Rattle.jc_parser.proofs.PartsReadLemmas.{reading, at_place}
 use Rattle.jc_parser.proofs.ExpressionReadersLemmas.{steps_at, step_none, undotted_is}
 use Rattle.jc_parser.proofs.ExpressionReaderLemmas.{reads_expression}
 use Rattle.jc_parser.proofs.ExpressionLimitsLemmas.{has_limits}
 use Rattle.jc_parser.proofs.ExpressionsLemmas.{reads_spelled}
-use Rattle.jc_parser.proofs.GrammarAgreesLemmas.{fault_as, given, given_with, Agrees, BeginsBy, agrees_map, agrees_then, agrees_or, agrees_one, agrees_mark, agrees_word, agrees_nothing, agrees_as, agrees_so, agrees_assoc, or_false}
-use Rattle.jc_parser.proofs.GrammarSaidLemmas.{IsExactly, exactly_so, reads_said, whole_same, given_whole, stopped_remembers, same_trees, same_faults, sentence_exactly}
+use Rattle.jc_parser.proofs.GrammarAgreesLemmas.{fault_as, given, given_with, Agrees, agrees_map, agrees_then, agrees_or, agrees_one, agrees_mark, agrees_word, agrees_nothing, agrees_as, agrees_so, or_false}
+use Rattle.jc_parser.proofs.GrammarSaidLemmas.{IsExactly, exactly_so, reads_said, reads_as, whole_same, given_whole, stopped_remembers, same_trees, same_faults, sentence_exactly}
 use Rattle.jc_parser.proofs.GrammarEventsLemmas.{agrees_index}
 
 -- ---- selectors
@@ -204,11 +204,14 @@ read_same r = whole_same agrees_expression r.stop r.left
 no_memory : (xs : List Symbol) (after : List Lexeme) → IsExpressionExcess Memory xs after → ⊥
 no_memory xs after excess = excess
 
+pub remembers : (r : Reading) → only_expression_at r ≡ Err Memory → ⊥
+remembers r h = stopped_remembers IsExpressionText IsWellFormedExpression IsExpressionExcess no_memory r ((defined r).err Memory h)
+
 pub said : (r : Reading) → IsExactly (IsSaidExpression r.left) (IsSaidExpressionFault r) (only_expression_at r)
-said r =
-    exactly_so (only_expression_at r) (read_same r)
-    (reads_said expression scenarios_decided.0 (misfit_at r.stop) expression_of_tree r.left
-    (λ h. stopped_remembers IsExpressionText IsWellFormedExpression IsExpressionExcess no_memory r ((defined r).err Memory (read_same r ∙ h))))
+said r = exactly_so (only_expression_at r) (read_same r) (reads_said expression scenarios_decided.0 (misfit_at r.stop) expression_of_tree r.left (λ h. remembers r (read_same r ∙ h)))
+
+pub read_as_said : (r : Reading) → IsReadAs expression_of_tree (read_whole expression (misfit_at r.stop) nothing_seen r.left) (only_expression_at r)
+read_as_said r = reads_as expression_of_tree (read_whole expression (misfit_at r.stop) nothing_seen r.left) (only_expression_at r) (read_same r) (remembers r)
 
 pub same_expressions : SameExpressions
 same_expressions ls e = same_trees (said (reading 0 ls)) (defined (reading 0 ls)) e

@@ -1,5 +1,5 @@
 -- About `GrammarTrees`: the reader of lists with `;` reads a list of the grammar.
-use Rattle.std.proofs.Common.{◌≡◌, ℕ, zero, suc, ◌⊎◌, inl, inr, Bool, true, false, cond, List, [], ◌∷◌, Result, Ok, Err, refl, sym, ap, ◌∙◌}
+use Rattle.std.proofs.Common.{◌≡◌, ℕ, zero, suc, ◌⊎◌, inl, inr, Bool, true, false, cond, List, [], ◌∷◌, Ok, Err, refl, sym, ap}
 use Rattle.jc_syntax.specs.declared.token.TokenKind.TheVariants.{Semi}
 use Rattle.jc_grammar.specs.Symbols.{Symbol, Lexeme}
 use Rattle.jc_grammar.specs.SymbolTests.{has_kind}

@@ -1,7 +1,7 @@
 -- About `GrammarClaims`: what a grammar says of lexemes is what its reader reads, and so is what a reader reads that
 -- agrees with it.
-use Rattle.std.proofs.Common.{◌≡◌, ◌≢◌, ℕ, inl, inr, true, List, [], ◌∷◌, Option, Some, None, Result, Ok, Err, refl, sym, ap, subst, ◌∙◌}
-use Rattle.std.specs.Prelude.{◌↔◌}
+use Rattle.std.proofs.Common.{◌≡◌, ◌≢◌, ℕ, inl, inr, true, List, [], ◌∷◌, Some, None, Result, Ok, Err, refl, sym, ap, subst, ◌∙◌}
+use Rattle.std.specs.Prelude.{◌↔◌, IfOk, IfErr}
 use Rattle.jc_rules.specs.declared.refusal.Refusal.{Refusal}
 use Rattle.jc_rules.specs.declared.refusal.Refusal.TheVariants as refusals
 use Rattle.jc_grammar.specs.Symbols.{Symbol, Lexeme, symbols}
@@ -14,10 +14,11 @@ use Rattle.jc_grammar.proofs.TreeReaderLemmas.{decides_all}
 use Rattle.jc_grammar.proofs.FaultsLemmas.{refused_so, fault_refused}
 use Rattle.jc_parser.specs.declared.fault.ScenarioFault.{ScenarioFault}
 use Rattle.jc_parser.specs.declared.fault.ScenarioFault.TheVariants.{BadByte, OpenString, BadEscape, LoneSurrogate, BadNumber, TextTooLong, Unexpected, EndOfText, IndexTooLarge, ReservedName, TooManyCommands, TooLongExpression, NotUtf8, NoHeader, SameName, NoReplica, TooManyReplicas, UnknownReplica, TooManyEvents, Memory}
-use Rattle.jc_parser.specs.ReaderState.{Reading, ReadOutcome, ◌>>=◌, stuck_at}
+use Rattle.jc_parser.specs.ReaderState.{Reading, ReadOutcome, ◌>>=◌, MapsResult, stuck_at}
 use Rattle.jc_parser.specs.Sentences.{Excess, IsStopped}
 use Rattle.jc_parser.specs.PartReaders.{result_of_read}
 use Rattle.jc_parser.specs.GrammarClaims.{IsSaid, IsTextFault, IsSaidFault}
+use Rattle.jc_parser.specs.GrammarLaws.{IsReadAs}
 use Rattle.jc_parser.proofs.ReaderStateLemmas.{Reads}
 use Rattle.jc_parser.proofs.PartsReadLemmas.{reading}
 use Rattle.jc_parser.proofs.SentencesLemmas.{Spelling, ReadsSpelled, one_sentence, sentence_ok, sentence_err}
@@ -117,6 +118,15 @@ exactly_by {A} {Is} {F} read ok err one none one_fault = record { ok = ok; again
         by_read (Ok a) here = absurd (none a e (ok a here) is)
         by_read (Err d) here = here ∙ ap (λ (x : ScenarioFault). Err x) (one_fault d e (err d here) is)
 
+-- as the clauses have it, of what a function returns
+pub tree_so : {X A : Type 0} {Is : A → Type 0} {F : ScenarioFault → Type 0} {read : Result A ScenarioFault} → IsExactly Is F read → (view : X → A) (result : Result X ScenarioFault) → MapsResult view result read → IfOk result (λ x. Is (view x))
+tree_so p view (Ok x) h = p.ok (view x) h
+tree_so p view (Err e) h = tt
+
+pub fault_so : {X A : Type 0} {Is : A → Type 0} {F : ScenarioFault → Type 0} {read : Result A ScenarioFault} → IsExactly Is F read → (view : X → A) (result : Result X ScenarioFault) → MapsResult view result read → IfErr result (λ e. e ≢ Memory → F e)
+fault_so p view (Ok x) h = tt
+fault_so p view (Err e) h = λ other. p.err e (h other)
+
 -- ---- a grammar's reader
 
 -- what is read of a whole tree, by a function
@@ -153,6 +163,13 @@ reads_said {A} g decided misfit view ls remembers = record { ok = ok; again = ag
     refused e (own, is, text) =
         let (rest, read) = fault_refused (decides_all g decided misfit nothing_seen) ls own is in
         rw read (ap (λ (x : ScenarioFault). Err x) (same_fault e own text))
+
+-- a reader that reads the same, and remembers no fault of its own
+pub reads_as : {T A : Type 0} (view : T → A) (read : Result T NoticedFault) (own : Result A ScenarioFault) → own ≡ given_whole view read → (own ≡ Err Memory → ⊥) → IsReadAs view read own
+reads_as view (Ok t) (Ok a) same remembers = cc
+reads_as view (Ok t) (Err e) same remembers = absurd cc
+reads_as view (Err e) (Ok a) same remembers = absurd cc
+reads_as view (Err e) (Err fault) same remembers = let is : fault_as e.fault ≡ fault = cc in text_fault fault e.fault (λ memory. remembers (ap (λ (x : ScenarioFault). Err x) memory)) is
 
 -- a reader that agrees with a grammar, up to the end
 pub whole_same : {A : Type 0} {g : Grammar} {view : ParseTree g → A} {f : Reading → ReadOutcome A} → Agrees g view f → (stop : ℕ) (ls : List Lexeme) → (f (reading stop ls) >>= result_of_read) ≡ given_whole view (read_whole g (misfit_at stop) nothing_seen ls)

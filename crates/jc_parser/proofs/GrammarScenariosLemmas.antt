@@ -1,8 +1,7 @@
 -- About `GrammarTrees`: the readers of scenarios read what the grammar's reader reads, and so the two say the same.
-use Rattle.std.proofs.Common.{◌≡◌, ◌≢◌, ℕ, zero, suc, ◌+◌, ◌-◌, ◌≤◌, ◌<◌, ◌⊎◌, inl, inr, Bool, true, false, ◌||◌, cond, List, [], ◌∷◌, ◌++◌, length, Result, Ok, Err, refl, sym, ap, subst, ◌∙◌, arith}
+use Rattle.std.proofs.Common.{◌≡◌, ℕ, zero, suc, ◌+◌, ◌-◌, ◌≤◌, ◌⊎◌, inl, inr, Bool, true, false, ◌||◌, List, [], ◌∷◌, ◌++◌, length, Ok, Err, refl, sym, ap, ◌∙◌, arith}
 use Rattle.std.specs.Prelude.{codes, nat_lt}
 use Rattle.std.specs.Str.{bytes_eq}
-use Rattle.std.specs.List.{list_any}
 use Rattle.std.proofs.lemmas.Bool.{cases_Bool, lt-ltb, le-ltb}
 use Rattle.std.proofs.lemmas.Slice.Eq.{bytes_eq-Decides}
 use Rattle.jc_rules.specs.Syntax.{Cmd}
@@ -11,8 +10,7 @@ use Rattle.jc_rules.specs.declared.refusal.Refusal.TheVariants as refusals
 use Rattle.jc_rules.specs.declared.version.Version.{Version}
 use Rattle.jc_rules.specs.declared.version.Version.TheVariants.{One, Two}
 use Rattle.jc_syntax.specs.declared.token.TokenKind.TheVariants.{Name, BraceL, BraceR}
-use Rattle.jc_syntax.specs.declared.tree.NamedEvent.{NamedEvent}
-use Rattle.jc_grammar.specs.Symbols.{Symbol, word, number, Lexeme, symbols, place_at}
+use Rattle.jc_grammar.specs.Symbols.{Symbol, word, number, Lexeme, symbols}
 use Rattle.jc_grammar.specs.SymbolTests.{has_kind, is_word, is_number_symbol, is_reserved}
 use Rattle.jc_grammar.specs.Classes.{is_in}
 use Rattle.jc_grammar.specs.Guards.{GuardState, TextFault, Misfit, nothing_seen, new_replica, no_event}
@@ -21,28 +19,26 @@ use Rattle.jc_grammar.specs.TreeReader.{TreeOutcome, ◌⟫◌, with_tree, pair_
 use Rattle.jc_grammar.specs.ScenarioGrammar.{token, keyword, script, event, events, block, blocks, replica, scenario, misfit_at, header_misfit, scenario_misfit}
 use Rattle.jc_grammar.specs.Limits.{either}
 use Rattle.jc_grammar.proofs.ScenarioGrammarLemmas.{scenarios_decided}
-use Rattle.jc_parser.specs.declared.fault.ScenarioFault.{ScenarioFault}
 use Rattle.jc_parser.specs.declared.fault.ScenarioFault.TheVariants.{TooManyEvents, Memory}
-use Rattle.jc_parser.specs.ReaderState.{Reading, ReadOutcome, ◌>>=◌, place, begins_with, one, skip, named_at, stuck_at}
+use Rattle.jc_parser.specs.ReaderState.{Reading, ReadOutcome, ◌>>=◌, place, one, skip, named_at}
 use Rattle.jc_parser.specs.PartReaders.{version_at, front_at, result_of_read}
 use Rattle.jc_parser.specs.ScriptReader.{closed_script_at}
-use Rattle.jc_parser.specs.EventReader.{any_event_at}
 use Rattle.jc_parser.specs.Scenarios.{Part, NamedTree, given_head, schedule_head, IsNamedTree}
 use Rattle.jc_parser.specs.ScenarioReader.{is_among, other_name_at, new_name_at, body_at, part_at, events_at, block_at, any_block_at, given_at, tree, blocks_at, with_replica_part, too_many_replicas_at, tail_at, rest_at, tree_at}
 use Rattle.jc_parser.specs.ScenarioFaults.{misfit_fault, IsNameFault, IsBlockExcess, IsEventExcess, IsGivenExcess, IsScheduleExcess, IsExcess, IsTreeFault}
-use Rattle.jc_parser.specs.GrammarTrees.{value_of, script_of_tree, events_of_tree, event_of_tree, block_of_tree, any_block_of_tree, blocks_of_tree, replica_of_tree, tail_of_tree, scenario_of_tree}
+use Rattle.jc_parser.specs.GrammarTrees.{value_of, script_of_tree, events_of_tree, block_of_tree, any_block_of_tree, blocks_of_tree, replica_of_tree, tail_of_tree, scenario_of_tree}
 use Rattle.jc_parser.specs.GrammarClaims.{IsSaidScenario, IsSaidScenarioFault}
-use Rattle.jc_parser.specs.GrammarLaws.{SameScenarios, SameScenarioFaults}
+use Rattle.jc_parser.specs.GrammarLaws.{IsReadAs, SameScenarios, SameScenarioFaults}
 use Rattle.jc_parser.proofs.PartsReadLemmas.{reading, at_place}
 use Rattle.jc_parser.proofs.ScenariosLemmas.{whole_ok, whole_err}
 use Rattle.jc_parser.proofs.ScenarioPlacesLemmas.{whole_placed}
 use Rattle.jc_parser.proofs.ScenarioLawsLemmas.{one_named, one_fault, tree_or_fault}
 use Rattle.jc_parser.proofs.GrammarAgreesLemmas.{fault_as, given, given_with, given_map, Agrees, agrees_map, then_same, agrees_then, agrees_or, agrees_mark, agrees_word, agrees_nothing, agrees_as, or_false}
-use Rattle.jc_parser.proofs.GrammarSaidLemmas.{IsExactly, exactly_by, exactly_so, reads_said, given_whole, stuck_remembers, same_trees, same_faults}
+use Rattle.jc_parser.proofs.GrammarSaidLemmas.{IsExactly, exactly_by, exactly_so, reads_said, reads_as, given_whole, stuck_remembers, same_trees, same_faults}
 use Rattle.jc_parser.proofs.GrammarEventsLemmas.{agrees_event}
 use Rattle.jc_parser.proofs.GrammarListsLemmas.{RefusesWith, AlwaysBeginsBy, agrees_listed}
 use Rattle.jc_parser.proofs.GrammarScriptsLemmas.{agrees_closed_script, no_memory}
-use Rattle.jc_parser.proofs.GrammarStatesLemmas.{ok_bind, same_ok, ok_with, keeps_names, read_keeps, script_keeps, AgreeTo, same_read}
+use Rattle.jc_parser.proofs.GrammarStatesLemmas.{ok_bind, same_ok, ok_with, read_keeps, script_keeps, AgreeTo, same_read}
 
 -- ---- blocks of events
 
@@ -209,9 +205,9 @@ next_same v n stop s names ls r count tail =
     (then_same (more v n) (λ (p : ParseTree replica) (t : ParseTree (more v n)). with_replica_part (replica_of_tree p) (tail_of_tree v n t))
     (λ p q. tail_at v MAX_EVENTS n (names ++ p.name ∷ []) q >>= λ t. Ok (with_replica_part p t.0, t.1)) stop (read_tree replica (misfit_at stop) s ls)
     (λ p own rest read.
-        let longer : length (names ++ (replica_of_tree p).name ∷ []) ≡ suc (length names) = one_more names (replica_of_tree p).name in
-        rw (tail own (names ++ (replica_of_tree p).name ∷ []) rest (part_kept (misfit_at stop) s names ls p own rest r read) (omega (arith, count, longer)))
-        (given_map (with_replica_part (replica_of_tree p)) (tail_of_tree v n) stop (read_tree (more v n) (misfit_at stop) own rest))))
+    let longer : length (names ++ (replica_of_tree p).name ∷ []) ≡ suc (length names) = one_more names (replica_of_tree p).name in
+    rw (tail own (names ++ (replica_of_tree p).name ∷ []) rest (part_kept (misfit_at stop) s names ls p own rest r read) (omega (arith, count, longer)))
+    (given_map (with_replica_part (replica_of_tree p)) (tail_of_tree v n) stop (read_tree (more v n) (misfit_at stop) own rest))))
 
 tail_same : (v : Version) (n stop : ℕ) (s : GuardState) (names : List (List ℕ)) (ls : List Lexeme) → Remembers s names → length names + n ≡ 64 → tail_at v MAX_EVENTS n names (reading stop ls) ≡ given (tail_of_tree v n) stop (read_tree (more v n) (misfit_at stop) s ls)
 unfolding repeated tail_of_tree tail_at one
@@ -383,11 +379,14 @@ defined r =
     exactly_by (tree_at r) (λ t h. record { spelled = (whole_ok r t h).0; within = (whole_ok r t h).1; placed = whole_placed r t h }) (whole_err r)
     (one_named r) (tree_or_fault r) (one_fault r)
 
+pub remembers : (r : Reading) → tree_at r ≡ Err Memory → ⊥
+remembers r h = tree_remembers r (whole_err r Memory h)
+
 pub said : (r : Reading) → IsExactly (IsSaidScenario r.left) (IsSaidScenarioFault r) (tree_at r)
-said r =
-    exactly_so (tree_at r) (same_header r.stop r.left)
-    (reads_said scenario scenarios_decided.3 (scenario_misfit r.stop r.left) scenario_of_tree r.left
-    (λ h. tree_remembers r (whole_err r Memory (same_header r.stop r.left ∙ h))))
+said r = exactly_so (tree_at r) (same_header r.stop r.left) (reads_said scenario scenarios_decided.3 (scenario_misfit r.stop r.left) scenario_of_tree r.left (λ h. remembers r (same_header r.stop r.left ∙ h)))
+
+pub read_as_said : (r : Reading) → IsReadAs scenario_of_tree (read_whole scenario (scenario_misfit r.stop r.left) nothing_seen r.left) (tree_at r)
+read_as_said r = reads_as scenario_of_tree (read_whole scenario (scenario_misfit r.stop r.left) nothing_seen r.left) (tree_at r) (same_header r.stop r.left) (remembers r)
 
 pub same_scenarios : SameScenarios
 same_scenarios r t = same_trees (said r) (defined r) t

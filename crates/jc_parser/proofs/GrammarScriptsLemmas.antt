@@ -1,27 +1,24 @@
 -- About `GrammarTrees`: the readers of scripts read what the grammar's reader reads, and so the two say the same.
-use Rattle.std.proofs.Common.{◌≡◌, ℕ, zero, suc, ◌⊎◌, inl, inr, Bool, true, false, ◌||◌, cond, List, [], ◌∷◌, Result, Ok, Err, refl, sym, ap, subst, ◌∙◌}
+use Rattle.std.proofs.Common.{◌≡◌, ℕ, zero, suc, inl, inr, Bool, true, false, ◌||◌, cond, List, [], ◌∷◌, Result, Ok, Err, refl, subst, ◌∙◌}
 use Rattle.std.specs.Prelude.{codes, not}
 use Rattle.std.specs.Str.{bytes_eq}
 use Rattle.std.proofs.lemmas.Bool.{cases_Bool}
 use Rattle.std.proofs.lemmas.Slice.Eq.{bytes_eq-Decides}
-use Rattle.jc_rules.specs.declared.value.Value.{Value}
 use Rattle.jc_rules.specs.Syntax.{Expr, Cmd, LetIn, SetTo, InsertAfter, DeleteAt, Yield}
 use Rattle.jc_rules.specs.declared.limits.TheConstants.{MAX_SELECTORS, MAX_COMMANDS}
 use Rattle.jc_syntax.specs.declared.token.TokenKind.TheVariants.{Name, Dot, ParenL, ParenR, BraceR, BracketR, Assign, Equals}
 use Rattle.jc_grammar.specs.Symbols.{Symbol, word, open_brace, open_bracket, Lexeme, symbols}
 use Rattle.jc_grammar.specs.SymbolTests.{has_kind, is_word, is_reserved, is_misused}
-use Rattle.jc_grammar.specs.Classes.{Class}
-use Rattle.jc_grammar.specs.Guards.{GuardState, nothing_seen, free_binding, no_selector, no_command, fault_at, verdict_of}
+use Rattle.jc_grammar.specs.Guards.{GuardState, nothing_seen, free_binding, no_selector, no_command}
 use Rattle.jc_grammar.specs.Grammar.{Grammar, ◌then◌, ◌or◌, guarded, ParseTree, chained}
-use Rattle.jc_grammar.specs.LookAhead.{is_of_any, first_classes}
-use Rattle.jc_grammar.specs.TreeReader.{TreeOutcome, ◌⟫◌, with_tree, pair_of, read_tree, read_whole}
-use Rattle.jc_grammar.specs.ScenarioGrammar.{token, keyword, in_parens, selector, root_but, selector_dot, expression, literal, assignment, ending, change, binding, command, script, misfit_at}
+use Rattle.jc_grammar.specs.TreeReader.{◌⟫◌, with_tree, pair_of, read_tree, read_whole}
+use Rattle.jc_grammar.specs.ScenarioGrammar.{token, keyword, in_parens, selector, root_but, selector_dot, literal, assignment, ending, change, binding, command, script, misfit_at}
 use Rattle.jc_grammar.specs.Limits.{either}
 use Rattle.jc_grammar.proofs.ScenarioGrammarLemmas.{scenarios_decided}
 use Rattle.jc_parser.specs.declared.fault.ScenarioFault.{ScenarioFault}
 use Rattle.jc_parser.specs.declared.fault.ScenarioFault.TheVariants.{TooLongExpression, Memory}
 use Rattle.jc_parser.specs.ReaderState.{Reading, ReadOutcome, ◌>>=◌, stuck, begins_with, one, skip, named_at}
-use Rattle.jc_parser.specs.PartReaders.{number_at, string_at, read_value_at, read_name_at, result_of_read}
+use Rattle.jc_parser.specs.PartReaders.{number_at, string_at, read_value_at, read_name_at}
 use Rattle.jc_parser.specs.Expressions.{is_selector, extended}
 use Rattle.jc_parser.specs.ExpressionReader.{step_at, Chain, chain_at, doc_at, variable_at, root_at, expression_at}
 use Rattle.jc_parser.specs.ScriptReader.{any_value_at, binding_at, assignment_at, insertion_at, deletion_at, finish_at, update_at, yield_at, command_at, too_many_commands_at, script_at, only_script_at, closed_script_at}
@@ -29,13 +26,13 @@ use Rattle.jc_parser.specs.Scripts.{IsScriptSpelled, IsScriptWellFormed, IsScrip
 use Rattle.jc_parser.specs.Sentences.{IsStopped}
 use Rattle.jc_parser.specs.GrammarTrees.{value_of, inside, selected, root_of_tree, expression_of_tree, value_of_tree, ending_of_tree, assignment_of_tree, change_of_tree, command_of_tree, script_of_tree}
 use Rattle.jc_parser.specs.GrammarClaims.{IsSaidScript, IsSaidScriptFault}
-use Rattle.jc_parser.specs.GrammarLaws.{SameScripts, SameScriptFaults}
+use Rattle.jc_parser.specs.GrammarLaws.{IsReadAs, SameScripts, SameScriptFaults}
 use Rattle.jc_parser.proofs.PartsReadLemmas.{reading, at_place}
 use Rattle.jc_parser.proofs.ScriptsLemmas.{reads_script}
 use Rattle.jc_parser.proofs.ScriptsReadLemmas.{reads_spelled}
 use Rattle.jc_parser.proofs.ScriptLimitsLemmas.{has_limits}
 use Rattle.jc_parser.proofs.GrammarAgreesLemmas.{given, given_with, Agrees, agrees_map, agrees_then, agrees_or, agrees_mark, agrees_word, agrees_as, agrees_so, or_false}
-use Rattle.jc_parser.proofs.GrammarSaidLemmas.{IsExactly, exactly_so, reads_said, whole_same, given_whole, stopped_remembers, same_trees, same_faults, sentence_exactly}
+use Rattle.jc_parser.proofs.GrammarSaidLemmas.{IsExactly, exactly_so, reads_said, reads_as, whole_same, given_whole, stopped_remembers, same_trees, same_faults, sentence_exactly}
 use Rattle.jc_parser.proofs.GrammarExpressionsLemmas.{selector_of_tree, selected_is, agrees_selector, selector_first, agrees_dot, agrees_expression}
 use Rattle.jc_parser.proofs.GrammarListsLemmas.{RefusesWith, AlwaysBeginsBy, agrees_listed}
 
@@ -323,11 +320,14 @@ no_memory xs after (inl next) = next
 no_memory xs after (inr (inl o)) = o.excess
 no_memory xs after (inr (inr o)) = o.excess
 
+pub remembers : (r : Reading) → only_script_at r ≡ Err Memory → ⊥
+remembers r h = stopped_remembers IsScriptSpelled IsScriptWellFormed IsScriptExcess no_memory r ((defined r).err Memory h)
+
 pub said : (r : Reading) → IsExactly (IsSaidScript r.left) (IsSaidScriptFault r) (only_script_at r)
-said r =
-    exactly_so (only_script_at r) (read_same r)
-    (reads_said script scenarios_decided.1 (misfit_at r.stop) script_of_tree r.left
-    (λ h. stopped_remembers IsScriptSpelled IsScriptWellFormed IsScriptExcess no_memory r ((defined r).err Memory (read_same r ∙ h))))
+said r = exactly_so (only_script_at r) (read_same r) (reads_said script scenarios_decided.1 (misfit_at r.stop) script_of_tree r.left (λ h. remembers r (read_same r ∙ h)))
+
+pub read_as_said : (r : Reading) → IsReadAs script_of_tree (read_whole script (misfit_at r.stop) nothing_seen r.left) (only_script_at r)
+read_as_said r = reads_as script_of_tree (read_whole script (misfit_at r.stop) nothing_seen r.left) (only_script_at r) (read_same r) (remembers r)
 
 pub same_scripts : SameScripts
 same_scripts ls commands = same_trees (said (reading 0 ls)) (defined (reading 0 ls)) commands

@@ -1,7 +1,6 @@
 -- The grammar of expressions, and their limits. Scripts contain them.
-use Rattle.std.specs.Prelude.{◌≡◌, ℕ, ◌≤◌, ◌<◌, List, [], ◌∷◌, ◌++◌, length, codes, Bool, true, false, ◌&&◌, ◌||◌, not, ◌==◌}
-use Rattle.std.specs.Str.{bytes_eq, all_ascii_digits}
-use Rattle.std.specs.Str.Parse.{digits_value}
+use Rattle.std.specs.Prelude.{◌≡◌, ℕ, ◌≤◌, ◌<◌, List, [], ◌∷◌, ◌++◌, codes, Bool, true, false, ◌||◌}
+use Rattle.std.specs.Str.{bytes_eq}
 use Rattle.jc_rules.specs.Syntax.{Expr, TheDoc, Variable, GetKey, Index, KeysOf, ValuesOf}
 use Rattle.jc_rules.specs.declared.limits.TheConstants.{MAX_SELECTORS}
 pub use Rattle.jc_grammar.specs.SymbolTests.{is_numeral, numeral_value}

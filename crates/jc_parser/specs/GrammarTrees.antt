@@ -1,5 +1,5 @@
 -- What a tree of the language as one value says: its expression, its commands, its events, its scenario.
-use Rattle.std.specs.Prelude.{◌≡◌, ℕ, zero, suc, ◌-◌, List, [], ◌∷◌, codes, None}
+use Rattle.std.specs.Prelude.{ℕ, zero, suc, ◌-◌, List, [], ◌∷◌, codes}
 use Rattle.std.proofs.Common.{inl, inr}
 use Rattle.jc_rules.specs.declared.limits.TheConstants.{MAX_SELECTORS, MAX_COMMANDS, MAX_REPLICAS, MAX_EVENTS}
 use Rattle.jc_rules.specs.declared.value.Value.{Value}
@@ -15,7 +15,7 @@ use Rattle.jc_grammar.specs.Symbols.{Lexeme}
 use Rattle.jc_grammar.specs.SymbolTests.{value_of_symbol, numeral_value}
 use Rattle.jc_grammar.specs.Guards.{Guard, new_replica, no_selector, no_command, no_event}
 use Rattle.jc_grammar.specs.Grammar.{Grammar, nothing, ◌then◌, ◌or◌, ParseTree, listed, chained, repeated}
-use Rattle.jc_grammar.specs.ScenarioGrammar.{token, keyword, in_parens, index, selector, root_but, selector_dot, expression, literal, assignment, ending, change, binding, command, script, identifier, common_action, action, event, events, block, blocks, replica, body, scenario}
+use Rattle.jc_grammar.specs.ScenarioGrammar.{token, keyword, in_parens, index, selector, root_but, selector_dot, expression, literal, assignment, ending, command, script, identifier, common_action, action, event, events, block, blocks, replica, body, scenario}
 use Rattle.jc_grammar.specs.Limits.{either}
 use Rattle.jc_parser.specs.Scenarios.{Part, NamedTree}
 use Rattle.jc_parser.specs.ScenarioReader.{tree, with_replica_part}

@@ -1,15 +1,13 @@
 -- The state of a reader, its outcome, and the steps of one token. All readers are made of these.
-use Rattle.std.specs.Prelude.{◌≡◌, ◌≢◌, ℕ, List, [], ◌∷◌, Bool, true, false, ◌==◌, if◌then◌else◌, Result, Ok, Err, length}
-use Rattle.std.specs.Str.{bytes_eq}
+use Rattle.std.specs.Prelude.{◌≡◌, ◌≢◌, ℕ, List, [], ◌∷◌, Bool, true, false, if◌then◌else◌, Result, Ok, Err, length}
 use Rattle.jc_syntax.specs.declared.token.Token.{Token}
-use Rattle.jc_syntax.specs.declared.token.TokenKind.{TokenKind}
-use Rattle.jc_syntax.specs.declared.token.TokenKind.TheVariants.{Name, Number, Str, Dot, ParenL, ParenR, BraceL, BraceR, BracketL, BracketR, Comma, Semi, Assign, Equals}
+use Rattle.jc_syntax.specs.declared.token.TokenKind.TheVariants.{Name}
 use Rattle.jc_parser.specs.declared.fault.ScenarioFault.{ScenarioFault}
 use Rattle.jc_parser.specs.declared.fault.ScenarioFault.TheVariants.{Unexpected, EndOfText, Memory}
 use Rattle.jc_syntax.specs.declared.tree.Named.{Named}
 pub use Rattle.jc_grammar.specs.Symbols.{place_at}
 pub use Rattle.jc_grammar.specs.SymbolTests.{kind_of_symbol, number_of_kind, same_kind, has_kind, value_of_symbol, is_word, is_number_symbol, reserved}
-use Rattle.jc_parser.specs.Symbols.{Symbol, word, number, string, dot, open_paren, close_paren, open_brace, close_brace, open_bracket, close_bracket, comma, semicolon, assign, equals, Lexeme, lexemes}
+use Rattle.jc_parser.specs.Symbols.{Symbol, Lexeme, lexemes}
 
 -- the lexemes that are left, and the length of the text
 pub record Reading : Type 0 where

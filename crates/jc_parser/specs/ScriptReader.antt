@@ -1,5 +1,5 @@
 -- How a script is read from left to right. The code follows these readers; a reader believes `Scripts`.
-use Rattle.std.specs.Prelude.{ℕ, List, Bool, true, false, ◌&&◌, not, if◌then◌else◌, codes, Result, Ok}
+use Rattle.std.specs.Prelude.{ℕ, List, Bool, true, false, if◌then◌else◌, codes, Result, Ok}
 use Rattle.jc_syntax.specs.declared.token.TokenKind.{TokenKind}
 use Rattle.jc_syntax.specs.declared.token.TokenKind.TheVariants.{Name, ParenL, ParenR, BraceL, BraceR, BracketL, BracketR, Assign, Equals}
 use Rattle.jc_rules.specs.declared.value.Value.{Value}
@@ -9,8 +9,7 @@ use Rattle.jc_rules.specs.declared.limits.TheConstants.{MAX_COMMANDS, MAX_SELECT
 use Rattle.jc_parser.specs.declared.fault.ScenarioFault.{ScenarioFault}
 use Rattle.jc_parser.specs.declared.fault.ScenarioFault.TheVariants.{ReservedName, TooManyCommands}
 pub use Rattle.jc_grammar.specs.SymbolTests.{is_misused}
-use Rattle.jc_parser.specs.Symbols.{Symbol}
-use Rattle.jc_parser.specs.ReaderState.{Reading, ReadOutcome, ◌>>=◌, place, begins, has_kind, is_word, reserved, skip}
+use Rattle.jc_parser.specs.ReaderState.{Reading, ReadOutcome, ◌>>=◌, place, begins, has_kind, is_word, skip}
 use Rattle.jc_parser.specs.PartReaders.{read_value_at, read_name_at, items_at, result_of_read}
 use Rattle.jc_parser.specs.ExpressionReader.{chain_at, root_at, expression_at}
 

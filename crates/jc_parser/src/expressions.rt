@@ -12,6 +12,7 @@ ghost use Rattle.jc_parser.specs.Sentences.{IsStopped};
 ghost use Rattle.jc_parser.specs.Symbols.{lexemes, symbols};
 ghost use Rattle.jc_parser.specs.Faults.{from_sentence, IsOfSentence};
 ghost use Rattle.jc_parser.specs.Views.{selector_view, chain_view};
+ghost use Rattle.jc_parser.specs.GrammarClaims.{IsSaidExpression, IsSaidExpressionFault};
 
 use crate::cursor::Cursor;
 use crate::fault::ScenarioFault;
@@ -166,6 +167,10 @@ fn expression_of(alloc: Global, text: &str, tokens: &[Token]) -> Result<Expr, Sc
     ensures within { IfOk result (λ e. IsWellFormedExpression (expr_of e)) }
     ensures fault { IfErr result (λ e. e ≢ ScenarioFault.Memory
         → IsStopped IsExpressionText IsWellFormedExpression IsExpressionExcess (reading_of text.now tokens.now) e) }
+    // The same by the language as one value.
+    ensures said { IfOk result (λ e. IsSaidExpression (lexemes text.now tokens.now) (expr_of e)) }
+    ensures said_fault { IfErr result (λ e. e ≢ ScenarioFault.Memory
+        → IsSaidExpressionFault (reading_of text.now tokens.now) e) }
     ensures kind { IfErr result IsOfSentence }
 {
     let mut cursor = Cursor::new(text, tokens);

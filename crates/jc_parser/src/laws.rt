@@ -6,7 +6,7 @@ ghost use Rattle.jc_parser.specs.ClosedScripts.{OneScriptAt, ScriptOrFaultAt, Sc
 ghost use Rattle.jc_parser.specs.EventLaws.{OneEvent, EventOrFault, EventElseFault, OneEventFault, OneEventAt, EventOrFaultAt, EventElseFaultAt, OneEventFaultAt};
 ghost use Rattle.jc_parser.specs.ScenarioLaws.{OneNamedTree, NamedTreeOrFault, NamedTreeElseFault, OneTreeFault};
 ghost use Rattle.jc_parser.specs.LegalSymbolLaws.{LegalExpressions, LegalScripts, LegalEvents, LegalScriptsAt, LegalEventsAt, LegalScenarios};
-ghost use Rattle.jc_parser.specs.GrammarLaws.{SameExpressions, SameExpressionFaults, SameScripts, SameScriptFaults, SameEvents, SameEventFaults, SameScenarios, SameScenarioFaults};
+ghost use Rattle.jc_parser.specs.GrammarLaws.{SameExpressions, SameExpressionFaults, SameScripts, SameScriptFaults, SameEvents, SameEventFaults, SameScenarios, SameScenarioFaults, OneReading};
 
 use jc_syntax::laws as lexemes;
 
@@ -245,4 +245,9 @@ pub fn same_scenarios()
 /// Lexemes have a fault as a scenario where the language as one value says so.
 pub fn same_scenario_faults()
     ensures { SameScenarioFaults }
+{}
+
+/// The readers that the code follows read what the reader of the language as one value reads.
+pub fn one_reading()
+    ensures { OneReading }
 {}

@@ -12,6 +12,7 @@ ghost use Rattle.jc_parser.specs.ClosedScripts.{IsClosedAhead, HasNoScript, IsSc
 ghost use Rattle.jc_parser.specs.Sentences.{IsStopped};
 ghost use Rattle.jc_parser.specs.Symbols.{lexemes, symbols};
 ghost use Rattle.jc_parser.specs.Faults.{from_sentence, IsOfSentence};
+ghost use Rattle.jc_parser.specs.GrammarClaims.{IsSaidScript, IsSaidScriptFault};
 
 use crate::cursor::Cursor;
 use crate::expressions::{Chain, expression, follow, root};
@@ -179,6 +180,10 @@ fn script_of(alloc: Global, text: &str, tokens: &[Token]) -> Result<Vec<Cmd>, Sc
     ensures within { IfOk result (λ s. IsScriptWellFormed (map cmd_of s.items)) }
     ensures fault { IfErr result (λ e. e ≢ ScenarioFault.Memory
         → IsStopped IsScriptSpelled IsScriptWellFormed IsScriptExcess (reading_of text.now tokens.now) e) }
+    // The same by the language as one value.
+    ensures said { IfOk result (λ s. IsSaidScript (lexemes text.now tokens.now) (map cmd_of s.items)) }
+    ensures said_fault { IfErr result (λ e. e ≢ ScenarioFault.Memory
+        → IsSaidScriptFault (reading_of text.now tokens.now) e) }
     ensures kind { IfErr result IsOfSentence }
 {
     let mut cursor = Cursor::new(text, tokens);
