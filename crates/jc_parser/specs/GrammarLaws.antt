@@ -1,5 +1,5 @@
--- The laws' statements: the definitions of expressions, scripts, events and scenarios, and of their faults, say what the
--- language as one value says.
+-- The laws' statements: the definitions of expressions, scripts, events and scenarios, and of their faults, say what
+-- the language as one value says.
 use Rattle.std.specs.Prelude.{◌≡◌, ◌↔◌, List, Result, Ok, Err}
 use Rattle.jc_rules.specs.declared.version.Version.{Version}
 use Rattle.jc_rules.specs.Syntax.{Expr, Cmd}
@@ -74,9 +74,11 @@ IsReadAs view (Err e) (Err fault) = IsTextFault fault e.fault
 pub record OneReading : Type 0 where
   pub expressions :
       (r : Reading)
-      → IsReadAs expression_of_tree (read_whole expression (misfit_at r.stop) nothing_seen r.left) (only_expression_at r)
+      → IsReadAs expression_of_tree (read_whole expression (misfit_at r.stop) nothing_seen r.left)
+      (only_expression_at r)
   pub scripts :
-      (r : Reading) → IsReadAs script_of_tree (read_whole script (misfit_at r.stop) nothing_seen r.left) (only_script_at r)
+      (r : Reading)
+      → IsReadAs script_of_tree (read_whole script (misfit_at r.stop) nothing_seen r.left) (only_script_at r)
   pub events :
       (v : Version) (r : Reading)
       → IsReadAs (event_of_tree v) (read_whole (event v) (misfit_at r.stop) nothing_seen r.left) (only_event_at v r)

@@ -38,7 +38,8 @@ abbrev pub inside : (g : Grammar) → ParseTree (in_parens g) → ParseTree g
 inside g t = t.1.0
 
 -- the items of a list, one past its limit too
-unfoldable pub items_of : {A : Type 0} (n : ℕ) (c : Guard) (x y : Grammar) → (ParseTree x → A) → ParseTree (listed n c x y) → List A
+unfoldable pub items_of :
+    {A : Type 0} (n : ℕ) (c : Guard) (x y : Grammar) → (ParseTree x → A) → ParseTree (listed n c x y) → List A
 unfolding listed
 items_of zero c x y item = either (λ t. item t ∷ []) (λ end. [])
 items_of (suc n) c x y item =
@@ -87,11 +88,13 @@ assignment_of_tree e t = SetTo e (value_of_tree t.1)
 
 -- An expression, and what is behind it. A selector past the limit is refused: such a tree is that of no text, and any
 -- command would do.
-unfoldable pub change_of_tree : (n : ℕ) → Expr → ParseTree (chained n no_selector selector_dot selector assignment ending) → Cmd
+unfoldable pub change_of_tree :
+    (n : ℕ) → Expr → ParseTree (chained n no_selector selector_dot selector assignment ending) → Cmd
 unfolding chained
 change_of_tree zero e = either (λ t. either (λ past. Yield) (ending_of_tree e) t.1) (assignment_of_tree e)
 change_of_tree (suc n) e =
-    either (λ t. either (λ more. change_of_tree n (selected e more.0) more.1) (ending_of_tree e) t.1) (assignment_of_tree e)
+    either (λ t. either (λ more. change_of_tree n (selected e more.0) more.1) (ending_of_tree e) t.1)
+    (assignment_of_tree e)
 
 abbrev pub command_of_tree : ParseTree command → Cmd
 command_of_tree (inl x) = Yield
