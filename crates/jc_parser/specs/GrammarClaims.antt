@@ -1,16 +1,19 @@
 -- What the language as one value says of lexemes: the tree that they are, or the fault that they have.
-use Rattle.std.specs.Prelude.{◌≡◌, List, Some, None}
+use Rattle.std.specs.Prelude.{◌≡◌, ◌⊎◌, ℕ, List, Some, None}
 use Rattle.jc_rules.specs.Syntax.{Expr, Cmd}
 use Rattle.jc_rules.specs.declared.version.Version.{Version}
+use Rattle.jc_syntax.specs.declared.token.Token.{Token}
 use Rattle.jc_syntax.specs.declared.tree.NamedEvent.{NamedEvent}
-use Rattle.jc_grammar.specs.Symbols.{Lexeme}
+use Rattle.jc_syntax.specs.declared.fault.LexFault.{LexFault}
+use Rattle.jc_syntax.specs.Lexemes.{AreTokensOf, IsFaultOf}
+use Rattle.jc_grammar.specs.Symbols.{Lexeme, lexemes}
 use Rattle.jc_grammar.specs.Guards.{TextFault, Misfit, nothing_seen}
 use Rattle.jc_grammar.specs.Grammar.{Grammar, ParseTree}
 use Rattle.jc_grammar.specs.Faults.{IsTreeText, IsFaultIn}
 use Rattle.jc_grammar.specs.ScenarioGrammar.{expression, script, event, scenario, misfit_at, scenario_misfit}
 use Rattle.jc_parser.specs.declared.fault.ScenarioFault.{ScenarioFault}
-use Rattle.jc_parser.specs.Faults.{fault_refusal, fault_offset}
-use Rattle.jc_parser.specs.ReaderState.{Reading}
+use Rattle.jc_parser.specs.Faults.{fault_refusal, fault_offset, from_lexer}
+use Rattle.jc_parser.specs.ReaderState.{Reading, reading_of}
 use Rattle.jc_parser.specs.Scenarios.{NamedTree}
 use Rattle.jc_parser.specs.GrammarTrees.{expression_of_tree, script_of_tree, event_of_tree, scenario_of_tree}
 
@@ -54,3 +57,17 @@ IsSaidEventFault v r fault = IsSaidFault (event v) (misfit_at r.stop) r.left fau
 
 abbrev pub IsSaidScenarioFault : Reading → ScenarioFault → Type 0
 IsSaidScenarioFault r fault = IsSaidFault scenario (scenario_misfit r.stop r.left) r.left fault
+
+-- ---- texts
+
+-- the tokens of a text are this
+pub record IsSaidOfText {A : Type 0} (Is : List Lexeme → A → Type 0) (text : List ℕ) (a : A) : Type 0 where
+  pub tokens : List Token
+  pub lexed : AreTokensOf text tokens
+  pub said : Is (lexemes text tokens) a
+
+-- the fault of a text: that of its tokens, else that of its lexemes
+abbrev pub IsSaidFaultOfText : (Reading → ScenarioFault → Type 0) → List ℕ → ScenarioFault → Type 0
+IsSaidFaultOfText IsFault text fault =
+    ((lexical : LexFault) × IsFaultOf text lexical × (fault ≡ from_lexer lexical))
+    ⊎ ((tokens : List Token) × AreTokensOf text tokens × IsFault (reading_of text tokens) fault)
