@@ -81,7 +81,7 @@ other_tags (ListT j) (RegT k) e = refl
 other_tags (RegT j) (MapT k) e = refl
 other_tags (RegT j) (ListT k) e = refl
 
-other_made : (v : Option Value) (q : Key) (u : Tagged) → same_key q (key_of_tagged u) ≡ false → is_made_by v q u ≡ false
+pub other_made : (v : Option Value) (q : Key) (u : Tagged) → same_key q (key_of_tagged u) ≡ false → is_made_by v q u ≡ false
 other_made None q u e = refl
 other_made (Some V.EmptyMap) q u e = other_tags (MapT q) u e
 other_made (Some V.EmptyList) q u e = other_tags (ListT q) u e

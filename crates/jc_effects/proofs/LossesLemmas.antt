@@ -23,7 +23,7 @@ use Rattle.jc_effects.specs.Laws.{IsNextTree, LosesNone}
 use Rattle.jc_effects.proofs.ElsewhereLemmas.{tidy_before, changes_of}
 
 -- an identifier below a key is in the key's presence set
-up : (c : Context) → Tidy false c → (R P : List Tagged) (k l : Key) (i : Id) → in_key k R l ≡ true → has_id i (ids_at l (seen (P ++ R) c)) ≡ true → has_id i (ids_at k (seen P c)) ≡ true
+pub up : (c : Context) → Tidy false c → (R P : List Tagged) (k l : Key) (i : Id) → in_key k R l ≡ true → has_id i (ids_at l (seen (P ++ R) c)) ≡ true → has_id i (ids_at k (seen P c)) ≡ true
 up c t [] P k l i e h = subst (λ z. has_id i (ids_at z (seen P c)) ≡ true) (sym (keys_eq k l e)) (subst (λ Q. has_id i (ids_at l (seen Q c)) ≡ true) (append-nil P) h)
 up c t (u ∷ R) P k l i e h =
     let moved : has_id i (ids_at l (seen ((P ++ u ∷ []) ++ R) c)) ≡ true = subst (λ Q. has_id i (ids_at l (seen Q c)) ≡ true) (sym (append_assoc P (u ∷ []) R)) h in

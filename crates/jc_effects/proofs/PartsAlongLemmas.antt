@@ -1,30 +1,33 @@
 -- About Parts: the places that differ along an operation's path and at its target.
-use Rattle.std.proofs.Common.{◌≡◌, ℕ, ◌+◌, ◌<◌, length, get_or, take, drop, append_assoc, List, [], ◌∷◌, ◌++◌, Bool, true, false, cond, refl, sym, ◌∙◌, ap, subst}
+use Rattle.std.proofs.Common.{◌≡◌, arith, ◌==◌, ℕ, ◌+◌, ◌<◌, length, get_or, take, drop, append_assoc, List, [], ◌∷◌, ◌++◌, Bool, true, false, cond, refl, sym, ◌∙◌, ap, subst}
 use Rattle.std.specs.Ordering.{is_lt}
 use Rattle.std.specs.declared.cmp.Ordering.{Ordering}
 use Rattle.std.specs.declared.cmp.Ordering.TheVariants.{Less, Equal, Greater}
+use Rattle.std.proofs.lemmas.Bool.{eqb-true}
 use Rattle.std.proofs.lemmas.List.{take_more, take-append-drop}
+use Rattle.jc_rules.specs.declared.id.Id.{Id}
 use Rattle.jc_rules.specs.declared.key.Key.{Key}
 use Rattle.jc_rules.specs.declared.key.Key.TheVariants as K
 use Rattle.jc_rules.specs.declared.key.Tagged.{Tagged}
 use Rattle.jc_rules.specs.declared.key.Tagged.TheVariants.{MapT, ListT, RegT}
 use Rattle.jc_rules.specs.declared.operation.Op.{Op}
 use Rattle.jc_rules.specs.Order.{key_cmp, same_key}
+use Rattle.jc_rules.specs.Ids.{without}
 use Rattle.jc_rules.specs.Context.{Context, key_of_tagged}
 use Rattle.jc_rules.specs.Table.{is_done}
 use Rattle.jc_rules.proofs.BoolLemmas.{no_truth}
 use Rattle.jc_rules.proofs.OrderLemmas.{exact_keys}
 use Rattle.jc_meaning.proofs.OrdersLemmas.{keys_self}
 use Rattle.jc_meaning.specs.Effects.{is_insert, target}
-use Rattle.jc_meaning.specs.Seen.{seen}
+use Rattle.jc_meaning.specs.Seen.{seen, ids_at}
 use Rattle.jc_meaning.proofs.ClearingEffectsLemmas.{seen_append}
 use Rattle.jc_effects.specs.declared.own.OwnEffects.{OwnEffects}
-use Rattle.jc_effects.specs.Difference.{Differences, no_difference, own_difference, below, IsDifference}
+use Rattle.jc_effects.specs.Difference.{Differences, no_difference, own_difference, is_nothing, below, IsDifference}
 use Rattle.jc_effects.specs.Laws.{IsChangedBy}
 use Rattle.jc_effects.specs.Parts.{own_seen, with_difference, AreLater, IsDifferenceAmong, IsKeyBefore, OnlyLoses}
 use Rattle.jc_effects.proofs.LawsPathLemmas.{others_on_path, other_tag_on_path, others_at_target, none_below_other}
 use Rattle.jc_effects.proofs.OneLemmas.{flipped}
-use Rattle.jc_effects.proofs.PartsAmongLemmas.{none_among, one_more, all_among}
+use Rattle.jc_effects.proofs.PartsAmongLemmas.{kept_in, none_among, same_more, one_more, all_among}
 use Rattle.jc_effects.proofs.PartsInsertLemmas.{others_at_insert, insert_target, before_other}
 use Rattle.jc_effects.proofs.PartsOwnLemmas.{keeps_all, lost_keeps}
 
@@ -34,7 +37,16 @@ use Rattle.jc_effects.proofs.PartsOwnLemmas.{keeps_all, lost_keeps}
 pub lost_place : (k : Key) (c d : Context) (own : OwnEffects) (m l rest y : Differences) → OnlyLoses c d → own_seen k own ≡ own_difference k c d
     → IsDifference (below (MapT k) c) (below (MapT k) d) m → IsDifference (below (ListT k) c) (below (ListT k) d) l → y ≡ with_difference k (own_seen k own) m l rest
     → (ks : List Key) → AreLater k ks → IsDifferenceAmong ks c d rest → IsDifferenceAmong (k ∷ ks) c d y
-lost_place k c d own m l rest y h o mi li e ks later among = subst (IsDifferenceAmong (k ∷ ks) c d) (sym e) (one_more k ks c d (own_seen k own) m l rest later (lost_keeps k c d (h [] k)) o mi li among)
+lost_place k c d own m l rest y h o mi li e ks later among = subst (IsDifferenceAmong (k ∷ ks) c d) (sym e) (one_more k ks c d (own_seen k own) m l rest later (lost_keeps k c d (h.losses [] k)) o mi li among)
+
+pub empty_is : {X : Type 0} (xs : List X) (n : ℕ) → n ≡ length xs → (n == 0) ≡ true → is_nothing xs ≡ true
+empty_is [] n e f = refl
+empty_is (x ∷ xs) n e f = let none : n ≡ 0 = eqb-true n 0 f in absurd (omega (arith, e, none))
+
+-- and where nothing is lost, since the key keeps its identifiers
+pub kept_place : (k : Key) (c d : Context) (lost : List Id) (rest : Differences) → OnlyLoses c d → lost ≡ without (ids_at k c) (ids_at k d) → is_nothing lost ≡ true
+    → (ks : List Key) → AreLater k ks → IsDifferenceAmong ks c d rest → IsDifferenceAmong (k ∷ ks) c d rest
+kept_place k c d lost rest h e q ks later among = same_more k ks c d rest (h.kept [] k (kept_in (ids_at k c) (ids_at k d) (ap is_nothing (sym e) ∙ q))) among
 
 -- where an operation was
 pub changed_place : (o : Op) (c d : Context) → IsChangedBy o c d → (P : List Tagged) (k : Key) (own : OwnEffects) (m l rest y : Differences) → own_seen k own ≡ own_difference k (seen P c) (seen P d)

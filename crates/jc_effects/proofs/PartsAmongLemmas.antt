@@ -42,7 +42,7 @@ nothing_both : {X : Type 0} (xs ys : List X) → is_nothing (xs ++ ys) ≡ true 
 nothing_both [] ys e = (refl, e)
 nothing_both (x ∷ xs) ys e = cc
 
-kept_in : (is js : List Id) → is_nothing (without is js) ≡ true → (i : Id) → has_id i is ≡ true → has_id i js ≡ true
+pub kept_in : (is js : List Id) → is_nothing (without is js) ≡ true → (i : Id) → has_id i is ≡ true → has_id i js ≡ true
 kept_in is js q i h = go (has_id i is) (has_id i js) (ap (has_id i) (sym (nothing_is (without is js) q)) ∙ has_id-without i is js) h
   where
     go : (a b : Bool) → false ≡ (a && not b) → a ≡ true → b ≡ true
@@ -160,6 +160,19 @@ later_among : (k : Key) (ks js : List Key) → AreLater k ks → AllByRecursion 
 later_among k ks [] h a = tt
 later_among k ks (j ∷ js) h a = (in_all (λ i. key_cmp k i ≡ Less) ks j h a.0, later_among k ks js h a.1)
 
+-- nothing differs there
+pub same_more : (k : Key) (ks : List Key) (c d : Context) (x : Differences) → IsSameFrom k c d → IsDifferenceAmong ks c d x → IsDifferenceAmong (k ∷ ks) c d x
+same_more k ks c d x same xi = record {
+  rise = xi.rise;
+  among = wider k ks (differing_keys x) xi.among;
+  others = λ j f g. other j (same_key k j) refl f g;
+  exact = xi.exact;
+}
+  where
+    other : (j : Key) (b : Bool) → same_key k j ≡ b → cond b true (is_done ks j) ≡ true → is_listed j x ≡ false → IsSameFrom j c d
+    other j true f g h = subst (λ z. IsSameFrom z c d) (keys_eq k j f) same
+    other j false f g h = xi.others j g h
+
 pub one_more : (k : Key) (ks : List Key) (c d : Context) (o : OwnDifference) (m l x : Differences) → AreLater k ks → Keeps k c d → o ≡ own_difference k c d → IsDifference (below (MapT k) c) (below (MapT k) d) m → IsDifference (below (ListT k) c) (below (ListT k) d) l → IsDifferenceAmong ks c d x → IsDifferenceAmong (k ∷ ks) c d (with_difference k o m l x)
 one_more k ks c d o m l x later s e mi li xi = go (is_quiet o && (is_no_difference m && is_no_difference l)) refl
   where
@@ -172,21 +185,12 @@ one_more k ks c d o m l x later s e mi li xi = go (is_quiet o && (is_no_differen
         (subst (IsDifference (below (MapT k) c) (below (MapT k) d)) mn mi)
         (subst (IsDifference (below (ListT k) c) (below (ListT k) d)) ln li)
 
-    other : (q : (is_quiet o && (is_no_difference m && is_no_difference l)) ≡ true) (j : Key) (b : Bool) → same_key k j ≡ b → cond b true (is_done ks j) ≡ true → is_listed j x ≡ false → IsSameFrom j c d
-    other q j true f g h = subst (λ z. IsSameFrom z c d) (keys_eq k j f) (same q)
-    other q j false f g h = xi.others j g h
-
     away : (j : Key) (b : Bool) → same_key k j ≡ b → cond b true (is_done ks j) ≡ true → (same_key j k ≡ false) × (is_listed j x ≡ false) → IsSameFrom j c d
     away j true f g h = let z : false ≡ true = sym h.0 ∙ keys_back j k ∙ f in no_truth z
     away j false f g h = xi.others j g h.1
 
     go : (b : Bool) → (is_quiet o && (is_no_difference m && is_no_difference l)) ≡ b → IsDifferenceAmong (k ∷ ks) c d (cond b x (difference k o m l x))
-    go true q = record {
-      rise = xi.rise;
-      among = wider k ks (differing_keys x) xi.among;
-      others = λ j f g. other q j (same_key k j) refl f g;
-      exact = xi.exact;
-    }
+    go true q = same_more k ks c d x (same q) xi
     go false q = record {
       rise = (later_among k ks (differing_keys x) later xi.among, xi.rise);
       among = (ap (λ b. cond b true (is_done ks k)) (keys_self k), wider k ks (differing_keys x) xi.among);

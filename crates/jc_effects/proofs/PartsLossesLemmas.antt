@@ -44,13 +44,13 @@ pub none_new : (c d : Context) → OnlyLoses c d → ((P : List Tagged) → IsNe
 none_new c d h new = record {
   complete = record {
     rise = tt;
-    others = λ k e P l f. lost_nothing l (seen P c) (seen P d) (h P l) (λ i. ap (has_id i) ((new P).ids l)) (λ i. ap (value_in_some i) ((new P).register l));
+    others = λ k e P l f. lost_nothing l (seen P c) (seen P d) (h.losses P l) (λ i. ap (has_id i) ((new P).ids l)) (λ i. ap (value_in_some i) ((new P).register l));
   };
   exact = tt;
 }
 
 pub loses_below : (t : Tagged) (c d : Context) → OnlyLoses c d → OnlyLoses (below t c) (below t d)
-loses_below t c d h = λ P k. h (t ∷ P) k
+loses_below t c d h = record { losses = λ P. h.losses (t ∷ P); kept = λ P. h.kept (t ∷ P) }
 
 -- ---- keys under which nothing stands
 
@@ -103,8 +103,8 @@ module _ (k : Key) (ks : List Key) (c : Context) (all : AllByRecursion (Contains
   no_tag (RegT j) e = subst (λ z. has_tag (RegT z) c ≡ false) (keys_eq k j e) no_values
 
   pub other_key : (d : Context) → OnlyLoses c d → IsSameFrom k c d
-  other_key d h [] l e = subst (λ z. IsSameAt z c d) (keys_eq k l e) (lost_nothing k c d (h [] k) (λ i. ap (has_id i) no_ids) (λ i. ap (value_in_some i) no_register))
-  other_key d h (u ∷ P) l e = lost_nothing l (seen (u ∷ P) c) (seen (u ∷ P) d) (h (u ∷ P) l) (λ i. ap (has_id i) (ids_below_new u P l c (no_tag u e))) (λ i. value_below_new u P l i c (no_tag u e))
+  other_key d h [] l e = subst (λ z. IsSameAt z c d) (keys_eq k l e) (lost_nothing k c d (h.losses [] k) (λ i. ap (has_id i) no_ids) (λ i. ap (value_in_some i) no_register))
+  other_key d h (u ∷ P) l e = lost_nothing l (seen (u ∷ P) c) (seen (u ∷ P) d) (h.losses (u ∷ P) l) (λ i. ap (has_id i) (ids_below_new u P l c (no_tag u e))) (λ i. value_below_new u P l i c (no_tag u e))
 
 -- ---- the loop over the keys, from the last one back
 

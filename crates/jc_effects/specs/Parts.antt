@@ -24,7 +24,6 @@ use Rattle.jc_tree.specs.declared.store.Place.{Place}
 use Rattle.jc_tree.specs.Tree.{Tree, HasPlace, or_no_entries, has_ids}
 use Rattle.jc_json.specs.Json.{key_text}
 use Rattle.jc_meaning.specs.Seen.{seen, ids_at, reg_at, value_seen_at, has_tag}
-use Rattle.jc_meaning.specs.Effects.{touches, clears, written_by}
 use Rattle.jc_meaning.specs.Forest.{follow}
 use Rattle.jc_meaning.proofs.ChainLemmas.{after, key_in}
 use Rattle.jc_meaning.proofs.InsertWalkLemmas.{Distinct, StopsAt}
@@ -34,9 +33,9 @@ use Rattle.jc_effects.specs.declared.entries.Entries.{Entries}
 use Rattle.jc_effects.specs.declared.own.Candidates.{Candidates}
 use Rattle.jc_effects.specs.declared.effects.Effects.{Effects, Nothing, Place'}
 use Rattle.jc_effects.specs.declared.below.Contexts.{Contexts}
-use Rattle.jc_effects.specs.declared.along.May.{May}
 use Rattle.jc_effects.specs.EffectsJson.{Labelled, as_members, some_ids, some_pairs, some_tags, some_links, if_shown, place_members, place_items}
 use Rattle.jc_effects.specs.Difference.{OwnDifference, link_changed, shown_changed, is_quiet, Differences, no_difference, difference, is_no_difference, differing_keys, is_listed, IsSameFrom, AreExact}
+use Rattle.jc_effects.specs.Laws.{LosesNone}
 
 -- ---- what the values in memory represent
 
@@ -113,9 +112,10 @@ pub record OnlyLosesAt (k : Key) (c d : Context) : Type 0 where
   pub values : (i : Id) → is_some (value_seen_at i k d) ≡ true → value_seen_at i k d ≡ value_seen_at i k c
   pub links : next k d ≡ next k c
 
--- So it is at each key, however deep.
-abbrev pub OnlyLoses : Context → Context → Type 0
-OnlyLoses c d = (P : List Tagged) (k : Key) → OnlyLosesAt k (seen P c) (seen P d)
+-- So it is at each key, however deep; and where a key keeps its identifiers, nothing differs at it or below it.
+pub record OnlyLoses (c d : Context) : Type 0 where
+  pub losses : (P : List Tagged) (k : Key) → OnlyLosesAt k (seen P c) (seen P d)
+  pub kept : (P : List Tagged) (k : Key) → LosesNone k (seen P c) (seen P d) → IsSameFrom k (seen P c) (seen P d)
 
 -- the key is below all of these
 abbrev pub AreLater : Key → List Key → Type 0
@@ -131,12 +131,6 @@ pub record IsDifferenceAmong (ks : List Key) (c d : Context) (x : Differences) :
   pub among : AllByRecursion (λ k. is_done ks k ≡ true) (differing_keys x)
   pub others : (k : Key) → is_done ks k ≡ true → is_listed k x ≡ false → IsSameFrom k c d
   pub exact : AreExact c d x
-
--- Of the entries at the key, the operation may have changed no more than is said.
-pub record MayDiffer (o : Op) (P : List Tagged) (k : Key) (may : May) : Type 0 where
-  pub gain : may.gain ≡ touches o P k
-  pub clear : may.clear ≡ false → clears o P k ≡ false
-  pub values : may.values ≡ false → (clears o P k ≡ false) × (written_by o P k ≡ None)
 
 -- The key behind which an insert puts its element, in the list as it was: from its last key on, past all elements with
 -- greater identifiers.

@@ -7,36 +7,22 @@ ghost use Rattle.jc_rules.specs.declared.key.Key.{Key as AnyKey};
 ghost use Rattle.jc_rules.specs.declared.key.Next.TheVariants.{Elem as To};
 ghost use Rattle.jc_rules.specs.declared.key.Tagged.{Tagged as AnyTagged};
 ghost use Rattle.jc_rules.specs.Order.{id_cmp, same_key};
+ghost use Rattle.jc_rules.specs.Context.{key_of_tagged};
 ghost use Rattle.jc_meaning.specs.Effects.{is_delete as deletes, is_insert as is_insertion, is_clearing as clears_there, target};
 ghost use Rattle.jc_meaning.specs.Seen.{seen};
 ghost use Rattle.jc_effects.specs.Difference.{below, own_difference, IsDifference};
 ghost use Rattle.jc_effects.specs.Laws.{IsChangedBy};
-ghost use Rattle.jc_effects.specs.Parts.{AreContexts, AreLater, IsDifferenceAmong, IsKeyBefore, MayDiffer, own_seen, differences_of};
+ghost use Rattle.jc_effects.specs.Parts.{AreContexts, AreLater, IsDifferenceAmong, IsKeyBefore, own_seen, tags_made, differences_of};
 
 use crate::below::{Change, Contexts, child_below, contexts_below};
 use crate::effects::{Effects, with_place};
-use crate::entries::{entries_at, link_in};
-use crate::own::{Candidates, OwnEffects, own_between};
+use crate::entries::{NO_HINT, entries_at, has_tag_in, ids_in, link_in};
+use crate::own::{
+    Candidates, NO_TAGS, OwnEffects, Tags, ids_without, link_changed, own_between, shown_between,
+};
 use jc_rules::{Id, Key, Mutation, Next, Op, Tagged, Value, compare_ids, compare_keys};
 use jc_tree::{Place, TreeStore};
 use std::alloc::{AllocError, Global};
-
-/// What of a key's own entries an operation may have changed; nothing else is looked at.
-#[derive(Clone, Copy)]
-struct May {
-    /// Whether the operation's identifier is in the presence set now.
-    gain: bool,
-    /// Whether identifiers may have gone.
-    clear: bool,
-    /// Whether values may have come or gone.
-    values: bool,
-}
-
-const NOT_AT_ALL: May = May {
-    gain: false,
-    clear: false,
-    values: false,
-};
 
 fn is_delete(mutation: &Mutation) -> bool
     ensures { result ≡ deletes mutation.now }
@@ -68,25 +54,66 @@ fn ids_if(wanted: bool, ids: &[Id]) -> &[Id]
     if wanted { ids } else { &[] }
 }
 
-/// The pairs, or none.
-fn pairs_if(wanted: bool, pairs: &[(Id, Value)]) -> &[(Id, Value)]
-    ensures { result.now ≡ cond wanted pairs.now [] }
+/// The tag of the key, unless it was there before.
+fn tag_made(tagged: &Tagged, was: bool) -> Tags
+    ensures { tags_made (key_of_tagged tagged.now) result ≡ cond was [] (tagged.now ∷ []) }
 {
-    if wanted { pairs } else { &[] }
+    let is = !was;
+    match tagged {
+        Tagged::MapT(_) => Tags { map: is, ..NO_TAGS },
+        Tagged::ListT(_) => Tags {
+            list: is,
+            ..NO_TAGS
+        },
+        Tagged::RegT(_) => Tags {
+            register: is,
+            ..NO_TAGS
+        },
+    }
 }
 
-/// What differs of the entries at a key, where the operation may have changed no more than is said.
-fn own_at<S: TreeStore>(
+/// What differs of the entries at a key on the path: the operation's identifier may have come, and the tagged key may
+/// be new.
+fn own_on_path<S: TreeStore>(
     change: &Change<'_, S>,
     contexts: Contexts,
     at: &[Tagged],
-    key: &Key,
-    may: May,
+    tagged: &Tagged,
 ) -> Result<OwnEffects, AllocError>
     requires changed { IsChangedBy change.now.op.now (S.tree change.now.old.now).now (S.tree change.now.new.now).now }
     requires contexts { AreContexts (S.names change.now.old.now) (S.names change.now.new.now)
         (S.tree change.now.old.now) (S.tree change.now.new.now) at.now contexts }
-    requires may { MayDiffer change.now.op.now at.now key.now may }
+    requires path { (rest : List AnyTagged) × (change.now.op.now.cursor.path ≡ at.now ++ tagged.now ∷ rest) }
+    ensures { IfOk result (λ own. own_seen (key_of_tagged tagged.now) own ≡ own_difference (key_of_tagged tagged.now)
+        (seen at.now (S.tree change.now.old.now).now) (seen at.now (S.tree change.now.new.now).now)) }
+{
+    let was = ids_in(change.old, contexts.old, at, tagged.key(), NO_HINT);
+    let now = ids_in(change.new, contexts.new, at, tagged.key(), NO_HINT);
+    let id = [change.op.id];
+    let came = ids_if(!is_delete(&change.op.mutation), &id);
+    Ok(OwnEffects {
+        gained: ids_without(change.alloc, came, was)?,
+        lost: Vec::new(change.alloc),
+        made: tag_made(tagged, has_tag_in(change.old, contexts.old, at, tagged)),
+        next: None,
+        shown: shown_between(was, now),
+        taken: Vec::new(change.alloc),
+        written: Vec::new(change.alloc),
+    })
+}
+
+/// What differs of the entries at the target.
+fn own_at_target<S: TreeStore>(
+    change: &Change<'_, S>,
+    contexts: Contexts,
+    at: &[Tagged],
+    key: &Key,
+) -> Result<OwnEffects, AllocError>
+    requires changed { IsChangedBy change.now.op.now (S.tree change.now.old.now).now (S.tree change.now.new.now).now }
+    requires contexts { AreContexts (S.names change.now.old.now) (S.names change.now.new.now)
+        (S.tree change.now.old.now) (S.tree change.now.new.now) at.now contexts }
+    requires path { at.now ≡ change.now.op.now.cursor.path }
+    requires target { key.now ≡ target change.now.op.now }
     ensures { IfOk result (λ own. own_seen key.now own ≡ own_difference key.now
         (seen at.now (S.tree change.now.old.now).now) (seen at.now (S.tree change.now.new.now).now)) }
 {
@@ -94,12 +121,37 @@ fn own_at<S: TreeStore>(
     let now = entries_at(change.new, contexts.new, at, key);
     let id = [change.op.id];
     let candidates = Candidates {
-        gained: ids_if(may.gain, &id),
-        lost: ids_if(may.clear, was.ids),
-        taken: pairs_if(may.values, was.pairs),
-        written: pairs_if(may.values, now.pairs),
+        gained: ids_if(!is_delete(&change.op.mutation), &id),
+        lost: ids_if(is_clearing(&change.op.mutation), was.ids),
+        taken: was.pairs,
+        written: now.pairs,
     };
     own_between(change.alloc, &was, &now, candidates)
+}
+
+/// What differs of the entries at the key before a new element: the link alone.
+fn own_linked<S: TreeStore>(change: &Change<'_, S>, contexts: Contexts, key: &Key) -> OwnEffects
+    requires changed { IsChangedBy change.now.op.now (S.tree change.now.old.now).now (S.tree change.now.new.now).now }
+    requires contexts { AreContexts (S.names change.now.old.now) (S.names change.now.new.now)
+        (S.tree change.now.old.now) (S.tree change.now.new.now) change.now.op.now.cursor.path contexts }
+    requires inserts { is_insertion change.now.op.now.mutation ≡ true }
+    requires other { same_key (target change.now.op.now) key.now ≡ false }
+    ensures { own_seen key.now result ≡ own_difference key.now
+        (seen change.now.op.now.cursor.path (S.tree change.now.old.now).now)
+        (seen change.now.op.now.cursor.path (S.tree change.now.new.now).now) }
+{
+    let path = change.op.cursor.path.as_slice();
+    let was = link_in(change.old, contexts.old, path, key);
+    let now = link_in(change.new, contexts.new, path, key);
+    OwnEffects {
+        gained: Vec::new(change.alloc),
+        lost: Vec::new(change.alloc),
+        made: NO_TAGS,
+        next: link_changed(was, now),
+        shown: None,
+        taken: Vec::new(change.alloc),
+        written: Vec::new(change.alloc),
+    }
 }
 
 /// A copy of the path.
@@ -157,12 +209,7 @@ fn place_at_target<S: TreeStore>(
 {
     let list = child_cleared(change, contexts, at, Tagged::ListT(key.copy()?))?;
     let map = child_cleared(change, contexts, at, Tagged::MapT(key.copy()?))?;
-    let may = May {
-        gain: !is_delete(&change.op.mutation),
-        clear: is_clearing(&change.op.mutation),
-        values: true,
-    };
-    let own = own_at(change, contexts, at.as_slice(), key, may)?;
+    let own = own_at_target(change, contexts, at.as_slice(), key)?;
     with_place(change.alloc, key, own, map, list, rest)
 }
 
@@ -213,8 +260,7 @@ fn place_of_link<S: TreeStore>(
         → IsDifferenceAmong (key.now ∷ ks) (seen change.now.op.now.cursor.path (S.tree change.now.old.now).now)
         (seen change.now.op.now.cursor.path (S.tree change.now.new.now).now) (differences_of effects)) }
 {
-    let path = change.op.cursor.path.as_slice();
-    let own = own_at(change, contexts, path, key, NOT_AT_ALL)?;
+    let own = own_linked(change, contexts, key);
     with_place(
         change.alloc,
         key,
@@ -289,12 +335,7 @@ fn place_on_path<S: TreeStore>(
     ensures { IfOk result (λ effects. IsDifference (seen at.now (S.tree change.now.old.now).now)
         (seen at.now (S.tree change.now.new.now).now) (differences_of effects)) }
 {
-    let may = May {
-        gain: !is_delete(&change.op.mutation),
-        clear: false,
-        values: false,
-    };
-    let own = own_at(change, contexts, at, tagged.key(), may)?;
+    let own = own_on_path(change, contexts, at, tagged)?;
     let none = Effects::Nothing;
     match tagged {
         Tagged::MapT(key) => with_place(change.alloc, key, own, inside, none, Effects::Nothing),

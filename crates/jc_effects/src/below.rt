@@ -7,10 +7,10 @@ ghost use Rattle.jc_effects.specs.Difference.{below, own_difference, IsDifferenc
 ghost use Rattle.jc_effects.specs.Parts.{AreContexts, OnlyLoses, OnlyLosesAt, AreLater, IsDifferenceAmong, own_seen, differences_of};
 
 use crate::effects::{Effects, with_place};
-use crate::entries::{entries_at, name_below};
-use crate::own::{Candidates, OwnEffects, own_between};
+use crate::entries::{ids_in, name_below, pairs_in};
+use crate::own::{NO_TAGS, OwnEffects, ids_without, pairs_without, shown_between};
 use jc_rules::{Key, Op, Tagged};
-use jc_tree::{Place, TreeStore};
+use jc_tree::{Hint, Place, TreeStore};
 use std::alloc::{AllocError, Global};
 
 /// A store before an operation and one after it.
@@ -47,12 +47,13 @@ pub(crate) fn contexts_below<S: TreeStore>(
     }
 }
 
-/// What differs of a key's own entries, where nothing but losses can.
+/// What differs of a key's own entries, where nothing but losses can. `hint` is where to look first for the key.
 fn own_lost<S: TreeStore>(
     change: &Change<'_, S>,
     contexts: Contexts,
     at: &[Tagged],
     key: &Key,
+    hint: Hint,
 ) -> Result<OwnEffects, AllocError>
     requires contexts { AreContexts (S.names change.now.old.now) (S.names change.now.new.now)
         (S.tree change.now.old.now) (S.tree change.now.new.now) at.now contexts }
@@ -61,15 +62,19 @@ fn own_lost<S: TreeStore>(
     ensures { IfOk result (λ own. own_seen key.now own ≡ own_difference key.now
         (seen at.now (S.tree change.now.old.now).now) (seen at.now (S.tree change.now.new.now).now)) }
 {
-    let was = entries_at(change.old, contexts.old, at, key);
-    let now = entries_at(change.new, contexts.new, at, key);
-    let candidates = Candidates {
-        gained: &[],
-        lost: was.ids,
-        taken: was.pairs,
-        written: &[],
-    };
-    own_between(change.alloc, &was, &now, candidates)
+    let was = ids_in(change.old, contexts.old, at, key, hint);
+    let now = ids_in(change.new, contexts.new, at, key, hint);
+    let had = pairs_in(change.old, contexts.old, at, key, hint);
+    let has = pairs_in(change.new, contexts.new, at, key, hint);
+    Ok(OwnEffects {
+        gained: Vec::new(change.alloc),
+        lost: ids_without(change.alloc, was, now)?,
+        made: NO_TAGS,
+        next: None,
+        shown: shown_between(was, now),
+        taken: pairs_without(change.alloc, had, has)?,
+        written: Vec::new(change.alloc),
+    })
 }
 
 /// The places that differ in the map or the list under the tagged key. At the end `at` is as it was, unless memory ran
@@ -102,12 +107,14 @@ pub(crate) fn child_below<S: TreeStore>(
 }
 
 /// With the key's place in front of the others, if something differs there. All other keys that differ are greater.
+/// `hint` is where to look first for the key.
 #[cycle(below)]
 fn place_below<S: TreeStore>(
     change: &Change<'_, S>,
     contexts: Contexts,
     at: &mut Vec<Tagged>,
     key: &Key,
+    hint: Hint,
     rest: Effects,
 ) -> Result<Effects, AllocError>
     requires contexts { AreContexts (S.names change.now.old.now) (S.names change.now.new.now)
@@ -121,9 +128,13 @@ fn place_below<S: TreeStore>(
         (seen at.old.items (S.tree change.now.new.now).now) (differences_of effects)) }
     ensures path { OnOk result (at.new.items ≡ at.old.items) }
 {
+    let own = own_lost(change, contexts, at.as_slice(), key, hint)?;
+    if own.lost.is_empty() {
+        // Where a key keeps its identifiers, nothing at it or below it is lost.
+        return Ok(rest);
+    }
     let list = child_below(change, contexts, at, Tagged::ListT(key.copy()?))?;
     let map = child_below(change, contexts, at, Tagged::MapT(key.copy()?))?;
-    let own = own_lost(change, contexts, at.as_slice(), key)?;
     with_place(change.alloc, key, own, map, list, rest)
 }
 
@@ -148,7 +159,7 @@ fn places_below<S: TreeStore>(
     let mut effects = Effects::Nothing;
     let mut keys = change.old.keys_at(change.alloc, place, at.as_slice())?;
     while let Some(lent) = keys.pop() {
-        effects = place_below(change, contexts, at, lent.0, effects)?;
+        effects = place_below(change, contexts, at, lent.0, lent.1, effects)?;
     }
     Ok(effects)
 }

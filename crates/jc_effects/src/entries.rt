@@ -24,14 +24,15 @@ pub(crate) struct Entries<'a> {
 }
 
 /// Where to look first for a key of which nothing is known.
-const NO_HINT: Hint = Hint { number: 0 };
+pub(crate) const NO_HINT: Hint = Hint { number: 0 };
 
-/// The presence set of the key.
-fn ids_in<'a, S: TreeStore>(
+/// The presence set of the key; `hint` is where to look first.
+pub(crate) fn ids_in<'a, S: TreeStore>(
     store: &'a S,
     place: Option<Place>,
     at: &[Tagged],
     key: &Key,
+    hint: Hint,
 ) -> &'a [Id]
     requires { IsNameOf (S.names store.now) (S.tree store.now) at.now place }
     ensures ids { result.now ≡ ids_at key.now (seen at.now (S.tree store.now).now) }
@@ -40,18 +41,19 @@ fn ids_in<'a, S: TreeStore>(
     let Some(place) = place else {
         return &[];
     };
-    match store.presence_by(place, at, key, NO_HINT) {
+    match store.presence_by(place, at, key, hint) {
         Some(ids) => ids,
         None => &[],
     }
 }
 
-/// The values of the key's register.
-fn pairs_in<'a, S: TreeStore>(
+/// The values of the key's register; `hint` is where to look first.
+pub(crate) fn pairs_in<'a, S: TreeStore>(
     store: &'a S,
     place: Option<Place>,
     at: &[Tagged],
     key: &Key,
+    hint: Hint,
 ) -> &'a [(Id, Value)]
     requires { IsNameOf (S.names store.now) (S.tree store.now) at.now place }
     ensures pairs { result.now ≡ or_no_entries (reg_at key.now (seen at.now (S.tree store.now).now)) }
@@ -60,7 +62,7 @@ fn pairs_in<'a, S: TreeStore>(
     let Some(place) = place else {
         return &[];
     };
-    match store.register_at(place, at, key) {
+    match store.register_by(place, at, key, hint) {
         Some(pairs) => pairs,
         None => &[],
     }
@@ -84,6 +86,26 @@ fn tags_in<S: TreeStore>(store: &S, place: Option<Place>, at: &[Tagged], key: &K
             list: false,
             register: false,
         },
+    }
+}
+
+/// Whether the context has the tagged key.
+pub(crate) fn has_tag_in<S: TreeStore>(
+    store: &S,
+    place: Option<Place>,
+    at: &[Tagged],
+    tagged: &Tagged,
+) -> bool
+    requires { IsNameOf (S.names store.now) (S.tree store.now) at.now place }
+    ensures { result ≡ has_tag tagged.now (seen at.now (S.tree store.now).now) }
+{
+    let Some(place) = place else {
+        return false;
+    };
+    match tagged {
+        Tagged::MapT(key) => store.map_by(place, at, key, NO_HINT).is_some(),
+        Tagged::ListT(key) => store.list_by(place, at, key, NO_HINT).is_some(),
+        Tagged::RegT(key) => store.register_at(place, at, key).is_some(),
     }
 }
 
@@ -124,10 +146,10 @@ pub(crate) fn entries_at<'a, S: TreeStore>(
     ensures { AreEntries key.now (seen at.now (S.tree store.now).now) result }
 {
     Entries {
-        ids: ids_in(store, place, at, key),
+        ids: ids_in(store, place, at, key, NO_HINT),
         tags: tags_in(store, place, at, key),
         next: link_in(store, place, at, key),
-        pairs: pairs_in(store, place, at, key),
+        pairs: pairs_in(store, place, at, key, NO_HINT),
     }
 }
 

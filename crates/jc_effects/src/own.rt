@@ -22,6 +22,13 @@ pub struct Tags {
     pub register: bool,
 }
 
+/// None of them.
+pub(crate) const NO_TAGS: Tags = Tags {
+    map: false,
+    list: false,
+    register: false,
+};
+
 /// What differs of a key's own entries.
 #[derive(Drop)]
 pub struct OwnEffects {
@@ -83,7 +90,7 @@ fn has_value(pairs: &[(Id, Value)], id: Id) -> bool
 }
 
 /// The identifiers of the first list that aren't in the second one, which rises.
-fn ids_without(alloc: Global, ids: &[Id], others: &[Id]) -> Result<Vec<Id>, AllocError>
+pub(crate) fn ids_without(alloc: Global, ids: &[Id], others: &[Id]) -> Result<Vec<Id>, AllocError>
     requires { AreRising others.now }
     ensures { IfOk result (λ found. found.items ≡ without ids.now others.now) }
 {
@@ -97,7 +104,7 @@ fn ids_without(alloc: Global, ids: &[Id], others: &[Id]) -> Result<Vec<Id>, Allo
 }
 
 /// The pairs whose identifier has no value in the second register.
-fn pairs_without(
+pub(crate) fn pairs_without(
     alloc: Global,
     pairs: &[(Id, Value)],
     others: &[(Id, Value)],
@@ -126,7 +133,10 @@ fn new_tags(was: Tags, now: Tags) -> Tags
 }
 
 /// What followed and what follows, where that differs.
-fn link_changed(was: Option<Next>, now: Option<Next>) -> Option<(Option<Next>, Option<Next>)>
+pub(crate) fn link_changed(
+    was: Option<Next>,
+    now: Option<Next>,
+) -> Option<(Option<Next>, Option<Next>)>
     ensures { result ≡ link_changed was now }
 {
     if was == now { None } else { Some((was, now)) }
@@ -136,6 +146,13 @@ fn shown_changed(was: bool, now: bool) -> Option<bool>
     ensures { result ≡ shown_changed was now }
 {
     if was == now { None } else { Some(now) }
+}
+
+/// Whether the presence set has an identifier now, where that differs.
+pub(crate) fn shown_between(was: &[Id], now: &[Id]) -> Option<bool>
+    ensures { result ≡ shown_changed (has_ids was.now) (has_ids now.now) }
+{
+    shown_changed(!was.is_empty(), !now.is_empty())
 }
 
 /// What differs between the entries of a key before and after, where only the candidates need be looked at.
@@ -156,7 +173,7 @@ pub(crate) fn own_between(
         lost: ids_without(alloc, candidates.lost, now.ids)?,
         made: new_tags(was.tags, now.tags),
         next: link_changed(was.next, now.next),
-        shown: shown_changed(!was.ids.is_empty(), !now.ids.is_empty()),
+        shown: shown_between(was.ids, now.ids),
         taken: pairs_without(alloc, candidates.taken, now.pairs)?,
         written: pairs_without(alloc, candidates.written, was.pairs)?,
     })

@@ -15,6 +15,7 @@ pub mod SomeRunLemmas
 pub mod SessionRunsLemmas
 pub mod CommandsLemmas
 pub mod ThreadRunsLemmas
+pub mod FoundLemmas
 pub mod WeaveRunsLemmas
 mod PromiseLemmas
 mod PromiseFactsLemmas

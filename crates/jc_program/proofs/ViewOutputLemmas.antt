@@ -1,5 +1,5 @@
 -- About ViewOutput: what was written before a fault. The functions of `run` and `alone` use it.
-use Rattle.std.proofs.Common.{◌≡◌, ◌≢◌, ◌⊎◌, ℕ, ◌+◌, ◌<◌, ◌≤◌, inl, inr, List, [], ◌∷◌, ◌++◌, length, take, drop, get_or, Bool, Option, Some, None, Result, Ok, Err, IfOk, OnErr, vec_len, refl, ap, sym, ◌∙◌, subst, append_assoc, arith}
+use Rattle.std.proofs.Common.{◌≡◌, ◌⊎◌, ℕ, ◌+◌, ◌<◌, ◌≤◌, inl, inr, List, [], ◌∷◌, ◌++◌, length, take, drop, get_or, Bool, Option, Some, None, Result, Ok, Err, IfOk, OnErr, vec_len, refl, ap, sym, ◌∙◌, subst, append_assoc, arith}
 use Rattle.std.proofs.lemmas.List.{take-append-drop}
 use Rattle.std.specs.Io.KnownBytes.{Consumes}
 use Rattle.std.specs.declared.alloc.Global.{Global}
@@ -8,23 +8,18 @@ use Rattle.jc_io.specs.declared.io.ReadFault.{ReadFault}
 use Rattle.jc_rules.specs.declared.operation.Event.{Event}
 use Rattle.jc_rules.specs.State.{State}
 use Rattle.jc_rules.specs.Step.{Network}
-use Rattle.jc_io.specs.Streams.{ConsumesUpTo, IsPrefixUpTo}
-use Rattle.jc_parser.specs.declared.fault.ScenarioFault.{ScenarioFault}
-use Rattle.jc_parser.specs.declared.fault.ScenarioFault.TheVariants.{Memory as NoMemoryRead}
+use Rattle.jc_io.specs.Streams.{ConsumesUpTo}
 use Rattle.jc_scenario.specs.WellFormed.{Scenario}
 use Rattle.jc_network.specs.NetworkHistory.{NetworkHistory}
 use Rattle.jc_network.specs.Given.{IsStart, IsStarted}
 use Rattle.jc_io.specs.Written.{Stream, WrotePart, Written, WrittenInPart}
 use Rattle.jc_io.proofs.WrittenLemmas.{wrote_none}
 use Rattle.jc_cli.specs.declared.order.View.{View}
-use Rattle.jc_program.specs.declared.fault.WorkFault.{WorkFault}
-use Rattle.jc_program.specs.declared.fault.WorkFault.TheVariants.{Read, Write, TooManyLines, NoThread, Memory}
+use Rattle.jc_program.specs.declared.fault.WorkFault.TheVariants.{Memory}
 use Rattle.jc_program.specs.Runs.{Made, GoesBy, events_of, events_text}
 use Rattle.jc_program.specs.PlayResult.{WroteAndHolds, WrittenAndHeld}
-use Rattle.jc_program.specs.ViewText.{ReadsAs, Ran}
-use Rattle.jc_program.specs.ViewOutput.{IsNext, Begins, IsDueAt, IsDue, Unfinished, blocks, IsUnfinished, HasRun, StopsView, IsStoppedView}
+use Rattle.jc_program.specs.ViewOutput.{IsNext, Begins, Unfinished, blocks, IsStoppedView}
 use Rattle.jc_program.proofs.PlayResultLemmas.{goes_on, events_of-append, split_here, shown_more, held_part_more}
-use Rattle.jc_program.proofs.ReadsScenarioLemmas.{reads_whole, ran_whole, has_refusal}
 
 -- the events that were made
 pub made_begins : (trace : Bool) (names : List (List ℕ)) (first now : Network) (es : List Event) (i : ℕ) (made : List Made) → GoesBy first made now → take i es ≡ events_of made → Begins trace names first es (events_text trace names 1 made)
@@ -75,39 +70,7 @@ module _ (trace : Bool) (s : Scenario) (wanted : List Event) (lines : List State
 
 -- ---- views of bytes
 
--- what is due at a fault is due on the bytes that have it
-pub due_at : (view : View) (bytes : List ℕ) (fault : ScenarioFault) (text : List ℕ) → (fault ≢ NoMemoryRead → ReadsAs bytes (Err fault)) → IsDueAt fault text → IsDue view bytes text
-due_at view bytes fault text known h = (Err fault, known (has_refusal fault _ h.1.is), h)
-
--- what was begun of the prefix that was read was begun of the whole
-due_whole : (view : View) (n : ℕ) (b v text : List ℕ) → n ≡ 8388609 → v ≡ take n b → IsDue view v text → IsDue view b text
-due_whole view n b v text is e h = (h.0, reads_whole n b v h.0 is e h.1, h.2)
-
-unfinished_whole : (view : View) (n : ℕ) (b v text : List ℕ) → n ≡ 8388609 → v ≡ take n b → IsUnfinished view v text → IsUnfinished view b text
-unfinished_whole view n b v text is e (inl none) = inl none
-unfinished_whole view n b v text is e (inr h) = inr (h.0, reads_whole n b v (Ok h.0) is e h.1, h.2)
-
-stops_whole : (view : View) (fault : WorkFault) (n : ℕ) (b v : List ℕ) (old new : Stream) → n ≡ 8388609 → v ≡ take n b → StopsView view v fault old new → StopsView view b fault old new
-stops_whole view Read n b v old new is e h = h
-stops_whole view Write n b v old new is e h = (h.0, due_whole view n b v h.0 is e h.1, h.2)
-stops_whole view TooManyLines n b v old new is e h = absurd h
-stops_whole view (NoThread refused) n b v old new is e h = absurd h
-stops_whole view Memory n b v old new is e h = (h.0, unfinished_whole view n b v h.0 is e h.1, h.2)
-
--- the bytes that a source had left, where they are known, and a run on them
-pub run_on_front : (view : View) (n : ℕ) (left : Option (List ℕ)) (v : List ℕ) (status : ℕ) (old new : Stream) → n ≡ 8388609 → IsPrefixUpTo n left v → Written (λ text. Ran view v text status) old new → HasRun view left old new status
-run_on_front view n None v status old new is front h = (v, tt, h)
-run_on_front view n (Some bytes) v status old new is front h = (bytes, refl, (h.0, ran_whole view n bytes v h.0 status is front h.1, h.2))
-
-pub stopped_on_front : (view : View) (fault : WorkFault) (n : ℕ) (left : Option (List ℕ)) (v : List ℕ) (old new : Stream) → n ≡ 8388609 → IsPrefixUpTo n left v → StopsView view v fault old new → IsStoppedView view fault left old new
-stopped_on_front view fault n None v old new is front h = (v, tt, h)
-stopped_on_front view fault n (Some bytes) v old new is front h = (bytes, refl, stops_whole view fault n bytes v old new is front h)
-
--- where nothing was read, nothing was written
-pub unread : (view : View) (left : Option (List ℕ)) (old new : Stream) → new ≡ old → IsStoppedView view Read left old new
-unread view None old new same = ([], tt, same)
-unread view (Some bytes) old new same = (bytes, refl, same)
-
+-- where there was no memory to read them, nothing was written
 pub nothing_shown : (view : View) (left : Option (List ℕ)) (old new : Stream) → new ≡ old → IsStoppedView view Memory left old new
 nothing_shown view None old new same = ([], tt, ([], inl refl, wrote_none old new same))
 nothing_shown view (Some bytes) old new same = (bytes, refl, ([], inl refl, wrote_none old new same))

@@ -7,6 +7,7 @@ pub mod Runs
 pub mod Journals
 pub mod ViewText
 pub mod ViewOutput
+pub mod Found
 pub mod PlayResult
 pub mod JournalResult
 pub mod Faults

@@ -8,7 +8,7 @@ use Rattle.jc_program.specs.declared.recording.Outcome.{Outcome}
 use Rattle.jc_program.specs.declared.recording.Outcome.TheVariants.{NoMemory, Stuck, Done}
 use Rattle.jc_program.specs.declared.recording.Recording.{Recording}
 use Rattle.jc_program.specs.ViewText.{ReadsAs, IsGivenShown, IsRefused}
-use Rattle.jc_io.specs.Written.{Stream, Wrote, WrotePart, Written, WrittenInPart}
+use Rattle.jc_io.specs.Written.{Stream, Wrote, WrotePart, Sent, Written, WrittenInPart}
 use Rattle.jc_program.specs.ViewOutput.{AreTold}
 use Rattle.jc_program.specs.WorkFaults.{fault_status, fault_line}
 use Rattle.jc_program.specs.Faults.{IsCause}
@@ -17,17 +17,26 @@ use Rattle.jc_program.specs.declared.fault.WorkFault.TheVariants.{Read, Write, T
 use Rattle.jc_program.specs.declared.recording.RecordFault.{RecordFault}
 use Rattle.jc_program.specs.declared.recording.RecordFault.TheVariants as F
 
--- The result where there is no recording: the lines of a stuck given event, with the status 3; else a fault.
-abbrev pub IsUnrecorded : RecordFault → Stream → Stream → Result ℕ WorkFault → Type 0
-IsUnrecorded (F.Given lines) old new (Ok status) = (status ≡ 3) × Wrote (string_bytes lines) old new
-IsUnrecorded (F.Given lines) old new (Err fault) = (fault ≡ Write) × WrotePart (string_bytes lines) old new
-IsUnrecorded F.Memory old new result = (result ≡ Err Memory) × (new ≡ old)
-IsUnrecorded (F.NoThread refused) old new result = (result ≡ Err (NoThread refused)) × (new ≡ old)
-
 abbrev pub outcome_status : Outcome → ℕ
 outcome_status NoMemory = 5
 outcome_status Stuck = 3
 outcome_status Done = 0
+
+-- The result of a recording, of which the text was written on the output, and then the lines on standard error; or,
+-- where there is none, of the lines of a stuck given event, with the status 3, or of the fault. Where a write failed a
+-- part of the text was written.
+abbrev pub IsTold
+    : Result Recording RecordFault → Result ℕ WorkFault → Stream → Stream → Stream → Stream → Type 0
+IsTold (Ok r) (Ok status) old new old_err new_err =
+    (status ≡ outcome_status r.outcome) × Wrote (string_bytes r.text) old new
+    × Sent (string_bytes r.lines) old_err new_err
+IsTold (Ok r) (Err fault) old new old_err new_err = (fault ≡ Write) × WrotePart (string_bytes r.text) old new
+IsTold (Err (F.Given lines)) (Ok status) old new old_err new_err =
+    (status ≡ 3) × Wrote (string_bytes lines) old new × (new_err ≡ old_err)
+IsTold (Err (F.Given lines)) (Err fault) old new old_err new_err =
+    (fault ≡ Write) × WrotePart (string_bytes lines) old new
+IsTold (Err F.Memory) result old new old_err new_err = (result ≡ Err Memory) × (new ≡ old)
+IsTold (Err (F.NoThread refused)) result old new old_err new_err = (result ≡ Err (NoThread refused)) × (new ≡ old)
 
 -- ---- recordings of a kind: `IsMade` says which are those of a scenario
 

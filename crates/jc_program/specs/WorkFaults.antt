@@ -3,8 +3,12 @@ use Rattle.std.specs.Prelude.{◌≡◌, ◌≢◌, ◌⊎◌, ℕ, List, codes,
 use Rattle.std.specs.declared.io.ErrorKind.{ErrorKind}
 use Rattle.std.specs.declared.io.ErrorKind.TheVariants.{OutOfMemory}
 use Rattle.jc_io.specs.Written.{Stream, Wrote, WrotePart, Sent}
+use Rattle.jc_io.specs.declared.io.ReadFault.{ReadFault}
+use Rattle.jc_io.specs.declared.io.ReadFault.TheVariants as reading
 use Rattle.jc_cli.specs.declared.fault.WordsFault.{WordsFault}
 use Rattle.jc_cli.specs.declared.fault.WordsFault.TheVariants as words
+use Rattle.jc_program.specs.declared.run.RunFault.{RunFault}
+use Rattle.jc_program.specs.declared.run.RunFault.TheVariants as running
 use Rattle.jc_program.specs.declared.fault.WorkFault.{WorkFault}
 use Rattle.jc_program.specs.declared.fault.WorkFault.TheVariants.{Read, Write, TooManyLines, NoThread, Memory}
 
@@ -22,6 +26,16 @@ fault_line Write = codes "write failed\n"
 fault_line TooManyLines = codes "too many lines\n"
 fault_line (NoThread refused) = codes "no thread\n"
 fault_line Memory = codes "no memory\n"
+
+-- the fault of a reading
+abbrev pub read_fault : ReadFault → WorkFault
+read_fault reading.Failed = Read
+read_fault reading.Memory = Memory
+
+-- the fault of a run
+abbrev pub run_fault : RunFault → WorkFault
+run_fault running.Write = Write
+run_fault running.Memory = Memory
 
 -- What is written for arguments that are no command, before and after on the output and on standard error, and the
 -- status: help on the output, unless a write fails; else on standard error why they are wrong, or that there was no

@@ -4,8 +4,9 @@ ghost use Rattle.std.specs.Prelude.{◌≡◌};
 ghost use Rattle.jc_program.specs.WorkFaults.{fault_status, fault_line};
 ghost use Rattle.jc_io.specs.Written.{sink, Sent};
 
+use crate::run::RunFault;
 use crate::sending::report;
-use jc_io::Sink;
+use jc_io::{ReadFault, Sink};
 use jc_runner::SpawnRefused;
 
 /// Why a command didn't come to its end.
@@ -21,6 +22,32 @@ pub enum WorkFault {
     NoThread(SpawnRefused),
     /// There was no memory.
     Memory,
+}
+
+impl From<ReadFault> for WorkFault {
+    ghost use Rattle.jc_program.specs.WorkFaults.{read_fault};
+
+    ghost from_gives = { λ why fault. fault ≡ read_fault why };
+
+    fn from(why: ReadFault) -> Self {
+        match why {
+            ReadFault::Failed => WorkFault::Read,
+            ReadFault::Memory => WorkFault::Memory,
+        }
+    }
+}
+
+impl From<RunFault> for WorkFault {
+    ghost use Rattle.jc_program.specs.WorkFaults.{run_fault};
+
+    ghost from_gives = { λ why fault. fault ≡ run_fault why };
+
+    fn from(why: RunFault) -> Self {
+        match why {
+            RunFault::Write => WorkFault::Write,
+            RunFault::Memory => WorkFault::Memory,
+        }
+    }
 }
 
 impl WorkFault {

@@ -9,10 +9,10 @@ ghost use Rattle.jc_program.specs.ViewOutput.{told_by};
 ghost use Rattle.jc_program.specs.Faults.{IsCause, IsUnread};
 ghost use Rattle.jc_program.specs.SessionRuns.{lines_by, TalksOn, StopsOn, HasTalked, HasStopped};
 
-use crate::alone::text_of;
 use crate::fault::WorkFault;
 use crate::files::Files;
-use jc_io::{Failed, ReadFault, Sink, Source};
+use crate::reading::text_of;
+use jc_io::{Failed, Sink, Source};
 use jc_session::{SessionEnd, SessionFault, session};
 use std::alloc::Global;
 
@@ -77,11 +77,7 @@ pub fn debug<R: AllocGlobal + Files, I: Source, K: Sink>(
     ensures cause { IfErr result (λ fault. IsCause fault (IsUnread (R.may_fail rt.now) file.now)
         (I.failures input.old) (I.failures input.new) (K.failures out.old) (K.failures out.new)) }
 {
-    let text = match text_of(rt, file, input) {
-        Ok(text) => text,
-        Err(ReadFault::Failed) => return Err(WorkFault::Read),
-        Err(ReadFault::Memory) => return Err(WorkFault::Memory),
-    };
+    let text = text_of(rt, file, input)?;
     if file == "-" {
         converse(rt.alloc(), &text, &mut NoBytes, out)
     } else {

@@ -1,5 +1,5 @@
 -- Of `Answers` and `Lines`: a name, the rest of an `act` line, a fault and bytes are read in one way, for `LawsLemmas`.
-use Rattle.std.proofs.Common.{◌≡◌, ℕ, ◌<◌, nat_le, ◌&&◌, List, [], ◌∷◌, ◌++◌, length, map, take, if◌then◌else◌, inl, inr, refl, ap, sym, subst, ◌∙◌, arith, append_assoc, append-nil}
+use Rattle.std.proofs.Common.{◌≡◌, ℕ, ◌<◌, nat_le, ◌&&◌, List, [], ◌∷◌, ◌++◌, length, Some, map, take, if◌then◌else◌, inl, inr, refl, ap, sym, subst, ◌∙◌, arith, append_assoc, append-nil}
 use Rattle.std.specs.List.{AllByRecursion}
 use Rattle.std.proofs.lemmas.Bool.{cases_lt}
 use Rattle.std.proofs.lemmas.Option.{same_Some, slice_get_within, get_or_from_slice_get}
@@ -7,6 +7,7 @@ use Rattle.std.proofs.lemmas.List.{length-map}
 use Rattle.std.proofs.lemmas.List.Elements.{All-nil, All-cons}
 use Rattle.std.proofs.lemmas.List.Sorted.{IsPermutation-refl}
 use Rattle.jc_rules.specs.declared.operation.Event.{Event}
+use Rattle.jc_rules.specs.declared.refusal.Refusal.{Refusal}
 use Rattle.jc_rules.specs.declared.refusal.Refusal.TheVariants as F
 use Rattle.jc_rules.specs.declared.version.Version.{Version}
 use Rattle.jc_rules.specs.declared.version.Version.TheVariants.{One}
@@ -17,6 +18,7 @@ use Rattle.jc_syntax.specs.declared.tree.Named.{Named}
 use Rattle.jc_syntax.specs.declared.tree.NamedEvent.{NamedEvent}
 use Rattle.jc_parser.specs.declared.fault.ScenarioFault.{ScenarioFault}
 use Rattle.jc_parser.specs.EventLaws.{OneEvent, EventOrFault, OneEventFault}
+use Rattle.jc_parser.specs.Faults.{fault_refusal, fault_offset}
 use Rattle.jc_parser.specs.Scenarios.{NamedTree, tree_of_named, name_of_part}
 use Rattle.jc_printer.specs.Canon.{AreNamed}
 use Rattle.jc_dump.specs.Texts.{refused_text}
@@ -26,6 +28,7 @@ use Rattle.jc_scenario.proofs.NamesDifferLemmas.{names-parts, rising_apart}
 use Rattle.jc_scenario.proofs.UnknownNamesLemmas.{one_stranger, no_stranger}
 use Rattle.jc_scenario.proofs.UniqueLemmas.{one_of_tree}
 use Rattle.jc_session.specs.Lines.{Line, Lacks, with_line_ends, whole_line, last_line}
+use Rattle.jc_session.specs.Reply as Y
 use Rattle.jc_session.specs.Answers.{IsNamed, IsFaultLine, IsMisspelled, faulty, strange, IsEventText}
 use Rattle.jc_session.specs.SessionText.{End, finished, too_many, AreWithin}
 
@@ -98,6 +101,13 @@ one_fault_line fault other text more same a b =
     let place : k.place ≡ b.place = same_Some k.place b.place (sym k.is_place ∙ b.is_place) in
     k.written ∙ (λ i. refused_text (refusal i) (place i)) ∙ sym b.written
 
+-- the place of a fault is one, too
+one_place : (fault other : ScenarioFault) (refusal more : Refusal) (place at : ℕ) → fault ≡ other → fault_refusal fault ≡ Some refusal → fault_offset fault ≡ Some place → fault_refusal other ≡ Some more → fault_offset other ≡ Some at → Y.misspelled refusal place ≡ Y.misspelled more at
+one_place fault other refusal more place at same a b c d =
+    let one : refusal ≡ more = same_Some refusal more (sym a ∙ ap fault_refusal same ∙ c) in
+    let here : place ≡ at = same_Some place at (sym b ∙ ap fault_offset same ∙ d) in
+    λ i. Y.misspelled (one i) (here i)
+
 -- ---- the rest of an `act` line
 
 -- the laws of events' texts
@@ -111,19 +121,19 @@ one_spelled laws version names rest e f rising a b =
     let same : a.named ≡ b.named = laws.one_event version rest a.named b.named a.is b.is in
     one_resolved names b.named e f rising (subst (λ (n : NamedEvent). IsResolved names n e) same a.resolved) b.resolved
 
-pub spelled_or_not : (laws : EventLaws) (version : Version) (names : List (List ℕ)) (rest text : List ℕ) (e : Event) → IsRising name_cmp names → IsEventText version names rest e → IsMisspelled version names rest text → ⊥
-spelled_or_not laws version names rest text e rising a (faulty fault is line) = laws.never_both version rest a.named fault a.is is
-spelled_or_not laws version names rest text e rising a (strange named place is first) =
+pub spelled_or_not : (laws : EventLaws) (version : Version) (names : List (List ℕ)) (rest : List ℕ) (refusal : Refusal) (place : ℕ) (e : Event) → IsRising name_cmp names → IsEventText version names rest e → IsMisspelled version names rest refusal place → ⊥
+spelled_or_not laws version names rest refusal place e rising a (faulty fault is told at) = laws.never_both version rest a.named fault a.is is
+spelled_or_not laws version names rest refusal place e rising a (strange named at is first) =
     let same : a.named ≡ named = laws.one_event version rest a.named named a.is is in
-    none_strange names named e place rising (subst (λ (n : NamedEvent). IsResolved names n e) same a.resolved) first
+    none_strange names named e at rising (subst (λ (n : NamedEvent). IsResolved names n e) same a.resolved) first
 
-pub one_misspelling : (laws : EventLaws) (version : Version) (names : List (List ℕ)) (rest text other : List ℕ) → IsMisspelled version names rest text → IsMisspelled version names rest other → text ≡ other
-one_misspelling laws version names rest text other (faulty fault is line) (faulty due it more) = one_fault_line fault due text other (laws.one_fault version rest fault due is it) line more
-one_misspelling laws version names rest text other (faulty fault is line) (strange named place it first) = absurd (laws.never_both version rest named fault it is)
-one_misspelling laws version names rest text other (strange named place it first) (faulty fault is line) = absurd (laws.never_both version rest named fault it is)
-one_misspelling laws version names rest text other (strange named place is first) (strange due there it second) =
+pub one_misspelling : (laws : EventLaws) (version : Version) (names : List (List ℕ)) (rest : List ℕ) (refusal other : Refusal) (place at : ℕ) → IsMisspelled version names rest refusal place → IsMisspelled version names rest other at → Y.misspelled refusal place ≡ Y.misspelled other at
+one_misspelling laws version names rest refusal other place at (faulty fault is told here) (faulty due it too there) = one_place fault due refusal other place at (laws.one_fault version rest fault due is it) told here too there
+one_misspelling laws version names rest refusal other place at (faulty fault is told here) (strange named there it first) = absurd (laws.never_both version rest named fault it is)
+one_misspelling laws version names rest refusal other place at (strange named there it first) (faulty fault is told here) = absurd (laws.never_both version rest named fault it is)
+one_misspelling laws version names rest refusal other place at (strange named here is first) (strange due there it second) =
     let same : named ≡ due = laws.one_event version rest named due is it in
-    ap (refused_text F.UnknownReplica) (one_stranger names (names_in_event due) place there (subst (λ (n : NamedEvent). IsFirstStranger names (names_in_event n) place) same first) second)
+    ap (Y.misspelled F.UnknownReplica) (one_stranger names (names_in_event due) here there (subst (λ (n : NamedEvent). IsFirstStranger names (names_in_event n) here) same first) second)
 
 -- ---- lines
 

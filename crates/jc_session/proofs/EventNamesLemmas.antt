@@ -1,5 +1,5 @@
 -- Of `AnswerOf`: the events of a debugger's schedule name its replicas.
-use Rattle.std.proofs.Common.{◌≡◌, ℕ, ◌<◌, List, [], ◌∷◌, length, take, Some, Contains, slice_get, sym, subst, arith}
+use Rattle.std.proofs.Common.{◌≡◌, ℕ, ◌+◌, ◌<◌, List, [], ◌∷◌, length, take, Option, Some, Contains, slice_get, sym, subst, arith}
 use Rattle.std.specs.List.{All}
 use Rattle.std.proofs.lemmas.Option.{slice_get_within}
 use Rattle.std.proofs.lemmas.List.Elements.{All-nil, All-cons, All-append, All-take}
@@ -14,11 +14,14 @@ use Rattle.jc_network.specs.Invariant.{IsFromStart}
 use Rattle.jc_network.proofs.EnabledLemmas.{IsEventOf, of_exec, of_send, of_recv, of_take, of_apply, of_done, in_from}
 use Rattle.jc_network.proofs.MembersLemmas.{first_in, later_in}
 use Rattle.jc_network.proofs.RunInvariantStartLemmas.{start_well, after_well}
-use Rattle.jc_debug.specs.DebuggerState.{Session}
+use Rattle.jc_debug.specs.DebuggerState.{Session, StuckEvent, GoesTo, arrives, stops, RunOutcome, breaks, sticks, ends, Runs}
 use Rattle.jc_session.specs.Lines.{Line}
 use Rattle.jc_session.specs.Requests.{Request}
+use Rattle.jc_session.specs.Reply as Y
+use Rattle.jc_session.specs.Reply.{Reply}
 use Rattle.jc_session.specs.Answers as N
 use Rattle.jc_session.specs.Answers.{Origin, Replies, ActsOn, Sets, LineAnswer}
+use Rattle.jc_session.proofs.AnswerOfLemmas.{of_all}
 
 -- ---- events that can be made
 
@@ -59,48 +62,103 @@ enabled_named M events n same r h =
 
 -- ---- events of a schedule
 
--- an answer leaves each event of the schedule named
-acts_named : (O : Origin) (A B : Session) (e : Event) (text : List ℕ) → AreNamed e (length O.names) → ActsOn O A e B text → All (λ x. AreNamed x (length O.names)) A.schedule → All (λ x. AreNamed x (length O.names)) B.schedule
-acts_named O A B e text named (N.full is) h = h
-acts_named O A B e text named (N.stuck why network lt is stuck) h = h
-acts_named O A B e text named (N.made network new rows lt is step) h =
+-- a request leaves each event of the schedule named
+acts_named : (O : Origin) (A B : Session) (e : Event) (reply : Reply) → AreNamed e (length O.names) → ActsOn O A e B reply → All (λ x. AreNamed x (length O.names)) A.schedule → All (λ x. AreNamed x (length O.names)) B.schedule
+acts_named O A B e reply named (N.full is) h = h
+acts_named O A B e reply named (N.stuck why network lt is stuck) h = h
+acts_named O A B e reply named (N.made network new rows lt is step) h =
     let P : Event → Type 0 = λ x. AreNamed x (length O.names) in
     All-append P (take A.position A.schedule) (e ∷ []) (All-take P A.position A.schedule h) (All-cons P e [] named (All-nil P))
 
-sets_named : (n : ℕ) (A B : Session) (b : _) (text : List ℕ) → Sets A b B text → All (λ x. AreNamed x n) A.schedule → All (λ x. AreNamed x n) B.schedule
-sets_named n A B b text (N.set least) h = h
-sets_named n A B b text (N.none_free none) h = h
+sets_named : (n : ℕ) (A B : Session) (b : _) (reply : Reply) → Sets A b B reply → All (λ x. AreNamed x n) A.schedule → All (λ x. AreNamed x n) B.schedule
+sets_named n A B b reply (N.set least) h = h
+sets_named n A B b reply (N.none_free none) h = h
 
-replies_named : (O : Origin) (A B : Session) (request : Request) (text : List ℕ) → Replies O A request B text → All (λ x. AreNamed x (length O.names)) A.schedule → All (λ x. AreNamed x (length O.names)) B.schedule
-replies_named O A B request text (N.steps le goes) h = h
-replies_named O A B request text (N.steps_past lt) h = h
-replies_named O A B request text (N.goes_back le) h = h
-replies_named O A B request text (N.back_past lt) h = h
-replies_named O A B request text (N.goes_to le goes) h = h
-replies_named O A B request text (N.goes_past lt) h = h
-replies_named O A B request text (N.acts event spelled acts) h = acts_named O A B event text spelled.resolved.known acts h
-replies_named O A B request text (N.acts_misspelled m) h = h
-replies_named O A B request text (N.runs lt runs) h = h
-replies_named O A B request text (N.runs_past is) h = h
-replies_named O A B request text (N.breaks_at {n} sets) h = sets_named (length O.names) A B _ text sets h
-replies_named O A B request text (N.breaks_rule rule has is sets) h = sets_named (length O.names) A B _ text sets h
-replies_named O A B request text (N.no_rule none) h = h
-replies_named O A B request text (N.breaks_replica p is sets) h = sets_named (length O.names) A B _ text sets h
-replies_named O A B request text (N.no_replica none) h = h
-replies_named O A B request text (N.clears j b is) h = h
-replies_named O A B request text (N.no_break none) h = h
-replies_named O A B request text (N.states network is) h = h
-replies_named O A B request text (N.state_of network p C is named there) h = h
-replies_named O A B request text (N.no_state none) h = h
-replies_named O A B request text (N.traces is makes) h = h
-replies_named O A B request text (N.at_start is) h = h
-replies_named O A B request text (N.enables network events is enabled) h = h
-replies_named O A B request text N.lists h = h
-replies_named O A B request text N.tells h = h
-replies_named O A B request text (N.compares network p q C D is one two here there compared) h = h
-replies_named O A B request text (N.no_compared none) h = h
+pub replies_named : (O : Origin) (A B : Session) (request : Request) (reply : Reply) → Replies O A request B reply → All (λ x. AreNamed x (length O.names)) A.schedule → All (λ x. AreNamed x (length O.names)) B.schedule
+replies_named O A B request reply (N.steps le goes) h = h
+replies_named O A B request reply (N.steps_past lt) h = h
+replies_named O A B request reply (N.goes_back le) h = h
+replies_named O A B request reply (N.back_past lt) h = h
+replies_named O A B request reply (N.goes_to le goes) h = h
+replies_named O A B request reply (N.goes_past lt) h = h
+replies_named O A B request reply (N.acts event spelled acts) h = acts_named O A B event reply spelled.resolved.known acts h
+replies_named O A B request reply (N.acts_misspelled m) h = h
+replies_named O A B request reply (N.runs lt runs) h = h
+replies_named O A B request reply (N.runs_past is) h = h
+replies_named O A B request reply (N.breaks_at {n} sets) h = sets_named (length O.names) A B _ reply sets h
+replies_named O A B request reply (N.breaks_rule rule has is sets) h = sets_named (length O.names) A B _ reply sets h
+replies_named O A B request reply (N.no_rule none) h = h
+replies_named O A B request reply (N.breaks_replica p is sets) h = sets_named (length O.names) A B _ reply sets h
+replies_named O A B request reply (N.no_replica none) h = h
+replies_named O A B request reply (N.clears j b is) h = h
+replies_named O A B request reply (N.no_break none) h = h
+replies_named O A B request reply (N.states network is) h = h
+replies_named O A B request reply (N.state_of network p C is named there) h = h
+replies_named O A B request reply (N.no_state none) h = h
+replies_named O A B request reply (N.traces is makes) h = h
+replies_named O A B request reply (N.at_start is) h = h
+replies_named O A B request reply (N.enables network events is enabled) h = h
+replies_named O A B request reply N.lists h = h
+replies_named O A B request reply N.tells h = h
+replies_named O A B request reply (N.compares network p q C D is one two here there compared) h = h
+replies_named O A B request reply (N.no_compared none) h = h
 
 pub answer_named : (O : Origin) (A B : Session) (line : Line) (text : List ℕ) → LineAnswer O A line B text → All (λ x. AreNamed x (length O.names)) A.schedule → All (λ x. AreNamed x (length O.names)) B.schedule
 answer_named O A B line text (N.empty is) h = h
 answer_named O A B line text (N.refused is) h = h
-answer_named O A B line text (N.replies request is replies) h = replies_named O A B request text replies h
+answer_named O A B line text (N.replies {reply} request is replies) h = replies_named O A B request reply replies h
+
+-- ---- events that are stuck
+
+-- the event at which a move or a run stopped names replicas
+abbrev pub IsNamedIn : ℕ → Reply → Type 0
+IsNamedIn n (Y.went p (Some (event, why))) = AreNamed event n
+IsNamedIn n (Y.ran p (sticks event why)) = AreNamed event n
+IsNamedIn n _ = Unit {0}
+
+goes_named : (O : Origin) (A : Session) (to p : ℕ) (end : Option StuckEvent) → GoesTo O.start A.schedule A.position to p end → All (λ x. AreNamed x (length O.names)) A.schedule → IsNamedIn (length O.names) (Y.went p end)
+goes_named O A to p end (arrives is) h = tt
+goes_named O A to p end (stops {event} le lt stuck) h = of_all (λ x. AreNamed x (length O.names)) A.schedule p event h stuck.is
+
+ran_named : (O : Origin) (A : Session) (p : ℕ) (end : RunOutcome) → Runs O.start A p end → All (λ x. AreNamed x (length O.names)) A.schedule → IsNamedIn (length O.names) (Y.ran p end)
+ran_named O A p (breaks j) r h = tt
+ran_named O A p (sticks event why) r h = let at = r.at in of_all (λ x. AreNamed x (length O.names)) A.schedule p event h at.1.is
+ran_named O A p ends r h = tt
+
+act_named : (O : Origin) (A B : Session) (e : Event) (reply : Reply) → AreNamed e (length O.names) → ActsOn O A e B reply → IsNamedIn (length O.names) reply
+act_named O A B e reply named (N.full is) = tt
+act_named O A B e reply named (N.stuck why network lt is stuck) = named
+act_named O A B e reply named (N.made network new rows lt is step) = tt
+
+set_named : (n : ℕ) (A B : Session) (b : _) (reply : Reply) → Sets A b B reply → IsNamedIn n reply
+set_named n A B b reply (N.set least) = tt
+set_named n A B b reply (N.none_free none) = tt
+
+pub stuck_named : (O : Origin) (A B : Session) (request : Request) (reply : Reply) → Replies O A request B reply → All (λ x. AreNamed x (length O.names)) A.schedule → IsNamedIn (length O.names) reply
+stuck_named O A B request reply (N.steps {n} {p} {end} le goes) h = goes_named O A (A.position + n) p end goes h
+stuck_named O A B request reply (N.steps_past lt) h = tt
+stuck_named O A B request reply (N.goes_back le) h = tt
+stuck_named O A B request reply (N.back_past lt) h = tt
+stuck_named O A B request reply (N.goes_to {n} {p} {end} le goes) h = goes_named O A n p end goes h
+stuck_named O A B request reply (N.goes_past lt) h = tt
+stuck_named O A B request reply (N.acts event spelled acts) h = act_named O A B event reply spelled.resolved.known acts
+stuck_named O A B request reply (N.acts_misspelled m) h = tt
+stuck_named O A B request reply (N.runs {n} {end} lt runs) h = ran_named O A n end runs h
+stuck_named O A B request reply (N.runs_past is) h = tt
+stuck_named O A B request reply (N.breaks_at sets) h = set_named (length O.names) A B _ reply sets
+stuck_named O A B request reply (N.breaks_rule rule has is sets) h = set_named (length O.names) A B _ reply sets
+stuck_named O A B request reply (N.no_rule none) h = tt
+stuck_named O A B request reply (N.breaks_replica p is sets) h = set_named (length O.names) A B _ reply sets
+stuck_named O A B request reply (N.no_replica none) h = tt
+stuck_named O A B request reply (N.clears j b is) h = tt
+stuck_named O A B request reply (N.no_break none) h = tt
+stuck_named O A B request reply (N.states network is) h = tt
+stuck_named O A B request reply (N.state_of network p C is named there) h = tt
+stuck_named O A B request reply (N.no_state none) h = tt
+stuck_named O A B request reply (N.traces is makes) h = tt
+stuck_named O A B request reply (N.at_start is) h = tt
+stuck_named O A B request reply (N.enables network events is enabled) h = tt
+stuck_named O A B request reply N.lists h = tt
+stuck_named O A B request reply N.tells h = tt
+stuck_named O A B request reply (N.compares network p q C D is one two here there compared) h = tt
+stuck_named O A B request reply (N.no_compared none) h = tt

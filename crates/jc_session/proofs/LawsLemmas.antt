@@ -11,11 +11,10 @@ use Rattle.jc_rules.specs.Step.{Network, StepIn}
 use Rattle.jc_rules.specs.State.{State}
 use Rattle.jc_rules.proofs.RefusalsLemmas.{names_differ}
 use Rattle.jc_rules.proofs.VersionLemmas.{stuck_in_has_none, one_stuck_in}
-use Rattle.jc_network.specs.Enabled.{AreChosen, no_more, chosen, left_out, AreEnabled, IsNotStuck, IsAnyStuck, candidates}
+use Rattle.jc_network.specs.Enabled.{AreEnabled, candidates}
 use Rattle.jc_network.specs.Given.{before_given, IsStart, IsGivenStuck, OneStart, OneGivenStuck, LedOrStuck}
-use Rattle.jc_dump.specs.Dump.{dump_line}
-use Rattle.jc_dump.specs.Lines.{stuck_text}
-use Rattle.jc_dump.specs.Texts.{block_text, dumps_text, given_text}
+use Rattle.jc_dump.specs.Texts.{given_text}
+use Rattle.jc_meaning.specs.declared.comparison.Comparison.{Comparison}
 use Rattle.jc_debug.specs.declared.breaks.Break.{Break}
 use Rattle.jc_debug.specs.declared.breaks.Break.TheVariants as Kind
 use Rattle.jc_debug.specs.DebuggerState.{Session, IsNetworkAt, MakesEvent, StuckEvent, GoesTo, RunOutcome, Runs, moved_to, with_break, new_session}
@@ -27,32 +26,35 @@ use Rattle.jc_session.specs.Answers as N
 use Rattle.jc_session.specs.Answers.{Origin, origin_of, IsNamed, IsStrange, Compares, ActsOn, Sets, Replies, LineAnswer}
 use Rattle.jc_session.specs.Laws.{OneSession}
 use Rattle.jc_session.specs.Lines.{Line}
+use Rattle.jc_session.specs.Reply as Y
+use Rattle.jc_session.specs.Reply.{Reply}
 use Rattle.jc_session.specs.Requests as Q
 use Rattle.jc_session.specs.Requests.{Request, nothing, asks, bad, meaning}
 use Rattle.jc_session.specs.SessionText as H
 use Rattle.jc_session.specs.SessionText.{AnswersLines, End, finished, text_refused, Ends, at_the_end, at_quit, Talks, refused, talks}
-use Rattle.jc_session.specs.Texts.{refusal_line, at_line, set_line, cleared_line, went_text, ran_text, event_lines, or_none_text}
+use Rattle.jc_session.specs.Texts.{reply_text}
+use Rattle.jc_session.proofs.ChosenEventsLemmas.{one_enabled}
 use Rattle.jc_session.proofs.AnswersUniqueLemmas.{one_named, one_fault_line, EventLaws, one_spelled, spelled_or_not, one_misspelling, one_within}
 
--- one state and one text
-abbrev Same : Session → Session → List ℕ → List ℕ → Type 0
+-- one state and one reply
+abbrev Same : Session → Session → Reply → Reply → Type 0
 Same B C t u = (B ≡ C) × (t ≡ u)
 
--- the text of what is seen in the network at the position
-seen_in : (O : Origin) (A : Session) (N M : Network) (text : Network → List ℕ) → IsNetworkAt O.start A.schedule A.position N → IsNetworkAt O.start A.schedule A.position M → Same A A (text N) (text M)
-seen_in O A N M text a b = (refl, ap text (one_network O.start A.schedule A.position N M a b))
+-- what is seen in the network at the position
+seen_in : (O : Origin) (A : Session) (N M : Network) (reply : Network → Reply) → IsNetworkAt O.start A.schedule A.position N → IsNetworkAt O.start A.schedule A.position M → Same A A (reply N) (reply M)
+seen_in O A N M reply a b = (refl, ap reply (one_network O.start A.schedule A.position N M a b))
 
 -- ---- moves and runs
 
-went_once : (O : Origin) (A : Session) (to p q : ℕ) (end other : Option StuckEvent) → GoesTo O.start A.schedule A.position to p end → GoesTo O.start A.schedule A.position to q other → Same (moved_to A p) (moved_to A q) (went_text O.names p end) (went_text O.names q other)
+went_once : (O : Origin) (A : Session) (to p q : ℕ) (end other : Option StuckEvent) → GoesTo O.start A.schedule A.position to p end → GoesTo O.start A.schedule A.position to q other → Same (moved_to A p) (moved_to A q) (Y.went p end) (Y.went q other)
 went_once O A to p q end other a b =
     let one = one_goes O.start A.schedule A.position to p q end other a b in
-    (ap (moved_to A) one.0, λ i. went_text O.names (one.0 i) (one.1 i))
+    (ap (moved_to A) one.0, λ i. Y.went (one.0 i) (one.1 i))
 
-ran_once : (O : Origin) (A : Session) (n m : ℕ) (end other : RunOutcome) → Runs O.start A n end → Runs O.start A m other → Same (moved_to A n) (moved_to A m) (ran_text O.names n end) (ran_text O.names m other)
+ran_once : (O : Origin) (A : Session) (n m : ℕ) (end other : RunOutcome) → Runs O.start A n end → Runs O.start A m other → Same (moved_to A n) (moved_to A m) (Y.ran n end) (Y.ran m other)
 ran_once O A n m end other a b =
     let one = one_run O.start A n m end other a b in
-    (ap (moved_to A) one.0, λ i. ran_text O.names (one.0 i) (one.1 i))
+    (ap (moved_to A) one.0, λ i. Y.ran (one.0 i) (one.1 i))
 
 -- ---- events of a line
 
@@ -60,14 +62,14 @@ no_step : (O : Origin) (A : Session) (event : Event) (why : Cause) (N M new : Ne
 no_step O A event why N M new rows a stuck b step =
     stuck_in_has_none M new event why rows (subst (λ (L : Network). IsStuckIn L event why) (one_network O.start A.schedule A.position N M a b) stuck) step
 
-acts_once : (O : Origin) (A B C : Session) (event : Event) (t u : List ℕ) → ActsOn O A event B t → ActsOn O A event C u → Same B C t u
+acts_once : (O : Origin) (A B C : Session) (event : Event) (t u : Reply) → ActsOn O A event B t → ActsOn O A event C u → Same B C t u
 acts_once O A B C event t u (N.full is) (N.full it) = (refl, refl)
 acts_once O A B C event t u (N.full is) (N.stuck due M lt b other) = absurd (omega (arith, is, lt))
 acts_once O A B C event t u (N.full is) (N.made M new rows lt b step) = absurd (omega (arith, is, lt))
 acts_once O A B C event t u (N.stuck why L lt a stuck) (N.full is) = absurd (omega (arith, is, lt))
 acts_once O A B C event t u (N.stuck why L lt a stuck) (N.stuck due M less b other) =
     let same : IsStuckIn M event why = subst (λ (X : Network). IsStuckIn X event why) (one_network O.start A.schedule A.position L M a b) stuck in
-    (refl, ap (λ (x : Cause). at_line A.position ++ stuck_text O.names x event) (one_stuck_in M event why due same other))
+    (refl, ap (λ (x : Cause). Y.went A.position (Some (event, x))) (one_stuck_in M event why due same other))
 acts_once O A B C event t u (N.stuck why L lt a stuck) (N.made M new rows less b step) = absurd (no_step O A event why L M new rows a stuck b step)
 acts_once O A B C event t u (N.made L new rows lt a step) (N.full is) = absurd (omega (arith, is, lt))
 acts_once O A B C event t u (N.made L new rows lt a step) (N.stuck why M less b stuck) = absurd (no_step O A event why M L new rows b stuck a step)
@@ -75,38 +77,38 @@ acts_once O A B C event t u (N.made L new rows lt a step) (N.made M other more l
 
 -- ---- breakpoints
 
-sets_once : (A B C : Session) (b : Break) (t u : List ℕ) → Sets A b B t → Sets A b C u → Same B C t u
+sets_once : (A B C : Session) (b : Break) (t u : Reply) → Sets A b B t → Sets A b C u → Same B C t u
 sets_once A B C b t u (N.set {j} least) (N.set {j = k} other) =
     let same : j ≡ k = one_least (λ i. slice_get A.breaks i ≡ Some None) j k least other in
-    (ap (λ (i : ℕ). with_break A i (Some b)) same, ap (λ (i : ℕ). set_line (i + 1)) same)
+    (ap (λ (i : ℕ). with_break A i (Some b)) same, ap (λ (i : ℕ). Y.set (i + 1)) same)
 sets_once A B C b t u (N.set {j} least) (N.none_free none) = absurd (none j least.0)
 sets_once A B C b t u (N.none_free none) (N.set {j} least) = absurd (none j least.0)
 sets_once A B C b t u (N.none_free none) (N.none_free other) = (refl, refl)
 
 -- what the request to take breakpoint k away leads to
-data Clears (A : Session) (k : ℕ) (B : Session) (t : List ℕ) : Type 0 where
+data Clears (A : Session) (k : ℕ) (B : Session) (t : Reply) : Type 0 where
   cleared : (j : ℕ) (b : Break)
       → k ≡ j + 1
       → slice_get A.breaks j ≡ Some (Some b)
       → B ≡ with_break A j None
-      → t ≡ cleared_line (j + 1)
+      → t ≡ Y.cleared (j + 1)
       → Clears A k B t
   no_such : ((j : ℕ) (b : Break) → k ≡ j + 1 → slice_get A.breaks j ≢ Some (Some b))
       → B ≡ A
-      → t ≡ refusal_line F.NoSuchBreak
+      → t ≡ Y.refused F.NoSuchBreak
       → Clears A k B t
 
-clears_of : (O : Origin) (A B : Session) (q : Request) (k : ℕ) (t : List ℕ) → q ≡ Q.unbreak k → Replies O A q B t → Clears A k B t
+clears_of : (O : Origin) (A B : Session) (q : Request) (k : ℕ) (t : Reply) → q ≡ Q.unbreak k → Replies O A q B t → Clears A k B t
 clears_of O A B q k t e (N.clears j b is) = let number : j + 1 ≡ k = cc in cleared j b (sym number) is refl refl
 clears_of O A B q k t e (N.no_break {k = n} none) =
     let number : n ≡ k = cc in
     no_such (subst (λ (m : ℕ). (j : ℕ) (b : Break) → m ≡ j + 1 → slice_get A.breaks j ≢ Some (Some b)) number none) refl refl
 clears_of O A B q k t e r = absurd cc
 
-clears_once : (A B C : Session) (k : ℕ) (t u : List ℕ) → Clears A k B t → Clears A k C u → Same B C t u
+clears_once : (A B C : Session) (k : ℕ) (t u : Reply) → Clears A k B t → Clears A k C u → Same B C t u
 clears_once A B C k t u (cleared j b number is B_is t_is) (cleared i d other it C_is u_is) =
     let same : j ≡ i = omega (arith, number, other) in
-    (B_is ∙ ap (λ (n : ℕ). with_break A n None) same ∙ sym C_is, t_is ∙ ap (λ (n : ℕ). cleared_line (n + 1)) same ∙ sym u_is)
+    (B_is ∙ ap (λ (n : ℕ). with_break A n None) same ∙ sym C_is, t_is ∙ ap (λ (n : ℕ). Y.cleared (n + 1)) same ∙ sym u_is)
 clears_once A B C k t u (cleared j b number is B_is t_is) (no_such none C_is u_is) = absurd (none j b number is)
 clears_once A B C k t u (no_such none B_is t_is) (cleared i d other it C_is u_is) = absurd (none i d other it)
 clears_once A B C k t u (no_such none B_is t_is) (no_such other C_is u_is) = (B_is ∙ sym C_is, t_is ∙ sym u_is)
@@ -120,20 +122,12 @@ known names name p is none = none (p, slice_get_within names p name is, get_or_f
 there_once : (L M : Network) (p q : ℕ) (C D : State) → L ≡ M → p ≡ q → slice_get L.states p ≡ Some C → slice_get M.states q ≡ Some D → C ≡ D
 there_once L M p q C D same number a b = same_Some C D (sym a ∙ (λ i. slice_get (same i).states (number i)) ∙ b)
 
--- the events chosen from a list are one list
-chosen_once : {Yes No : Event → Type 0} (cs ls ms : List Event) → ((e : Event) → Yes e → No e → ⊥) → AreChosen Yes No cs ls → AreChosen Yes No cs ms → ls ≡ ms
-chosen_once cs ls ms never no_more no_more = refl
-chosen_once cs ls ms never (chosen {event = e} {asked = ds} {listed = xs} y a) (chosen {listed = ys} z b) = ap (λ l. e ∷ l) (chosen_once ds xs ys never a b)
-chosen_once cs ls ms never (chosen {event = e} y a) (left_out n b) = absurd (never e y n)
-chosen_once cs ls ms never (left_out {event = e} n a) (chosen y b) = absurd (never e y n)
-chosen_once cs ls ms never (left_out {asked = ds} {listed = xs} n a) (left_out {listed = ys} m b) = chosen_once ds xs ys never a b
-
 enabled_once : (O : Origin) (A : Session) (N M : Network) (ls ms : List Event) → IsNetworkAt O.start A.schedule A.position N → IsNetworkAt O.start A.schedule A.position M → AreEnabled N (candidates N) ls → AreEnabled M (candidates M) ms → ls ≡ ms
 enabled_once O A N M ls ms a b listed other =
     let here = subst (λ (L : Network). AreEnabled L (candidates L) ls) (one_network O.start A.schedule A.position N M a b) listed in
-    chosen_once {Yes = IsNotStuck M} {No = IsAnyStuck M} (candidates M) ls ms (λ e free stuck. free stuck.0 stuck.1) here other
+    one_enabled M ls ms here other
 
-compared_once : (C D : State) (t u : List ℕ) → Compares C D t → Compares C D u → t ≡ u
+compared_once : (C D : State) (t u : Comparison) → Compares C D t → Compares C D u → t ≡ u
 compared_once C D t u (N.same_tree ops tree) (N.same_tree too other) = refl
 compared_once C D t u (N.same_tree ops tree) (N.different_tree too other) = absurd (other tree)
 compared_once C D t u (N.same_tree ops tree) (N.different_ops other) = absurd (other ops)
@@ -150,8 +144,8 @@ both_known names name other p q a b (inr none) = known names other q b none
 
 -- ---- requests
 
--- a request leads to one state, and has one answer
-one_reply : (laws : EventLaws) (O : Origin) (A : Session) (q : Request) → IsRising name_cmp O.names → (B : Session) (t : List ℕ) → Replies O A q B t → (C : Session) (u : List ℕ) → Replies O A q C u → Same B C t u
+-- a request leads to one state, and has one reply
+one_reply : (laws : EventLaws) (O : Origin) (A : Session) (q : Request) → IsRising name_cmp O.names → (B : Session) (t : Reply) → Replies O A q B t → (C : Session) (u : Reply) → Replies O A q C u → Same B C t u
 one_reply laws O A q rising B t (N.steps {n} {p} {end} le goes) C u (N.steps {p = r} {end = other} less moves) = went_once O A (A.position + n) p r end other goes moves
 one_reply laws O A q rising B t (N.steps {n} le goes) C u (N.steps_past lt) = absurd (omega (arith, le, lt))
 one_reply laws O A q rising B t (N.steps_past lt) C u (N.steps {n} le goes) = absurd (omega (arith, le, lt))
@@ -167,9 +161,9 @@ one_reply laws O A q rising B t (N.goes_past lt) C u (N.goes_past less) = (refl,
 one_reply laws O A q rising B t (N.acts {rest} e spelled a) C u (N.acts f spelled_too b) =
     let event : e ≡ f = one_spelled laws O.start.version O.names rest e f rising spelled spelled_too in
     acts_once O A B C f t u (subst (λ (x : Event). ActsOn O A x B t) event a) b
-one_reply laws O A q rising B t (N.acts {rest} e spelled a) C u (N.acts_misspelled m) = absurd (spelled_or_not laws O.start.version O.names rest u e rising spelled m)
-one_reply laws O A q rising B t (N.acts_misspelled {rest} m) C u (N.acts e spelled a) = absurd (spelled_or_not laws O.start.version O.names rest t e rising spelled m)
-one_reply laws O A q rising B t (N.acts_misspelled {rest} m) C u (N.acts_misspelled n) = (refl, one_misspelling laws O.start.version O.names rest t u m n)
+one_reply laws O A q rising B t (N.acts {rest} e spelled a) C u (N.acts_misspelled {refusal} {place} m) = absurd (spelled_or_not laws O.start.version O.names rest refusal place e rising spelled m)
+one_reply laws O A q rising B t (N.acts_misspelled {rest} {refusal} {place} m) C u (N.acts e spelled a) = absurd (spelled_or_not laws O.start.version O.names rest refusal place e rising spelled m)
+one_reply laws O A q rising B t (N.acts_misspelled {rest} {refusal} {place} m) C u (N.acts_misspelled {refusal = other} {place = at} n) = (refl, one_misspelling laws O.start.version O.names rest refusal other place at m n)
 one_reply laws O A q rising B t (N.runs {n} {end} lt runs) C u (N.runs {n = m} {end = other} less moves) = ran_once O A n m end other runs moves
 one_reply laws O A q rising B t (N.runs lt runs) C u (N.runs_past is) = absurd (omega (arith, lt, is))
 one_reply laws O A q rising B t (N.runs_past is) C u (N.runs lt runs) = absurd (omega (arith, lt, is))
@@ -189,47 +183,47 @@ one_reply laws O A q rising B t (N.no_replica {name} none) C u (N.breaks_replica
 one_reply laws O A q rising B t (N.no_replica none) C u (N.no_replica other) = (refl, refl)
 one_reply laws O A q rising B t (N.clears j b is) C u r = clears_once A B C (j + 1) t u (cleared j b refl is refl refl) (clears_of O A C (Q.unbreak (j + 1)) (j + 1) u refl r)
 one_reply laws O A q rising B t (N.no_break {k} none) C u r = clears_once A B C k t u (no_such none refl refl) (clears_of O A C (Q.unbreak k) k u refl r)
-one_reply laws O A q rising B t (N.states L is) C u (N.states M it) = seen_in O A L M (λ (K : Network). dumps_text O.names K.states) is it
+one_reply laws O A q rising B t (N.states L is) C u (N.states M it) = seen_in O A L M (λ (K : Network). Y.states K.states) is it
 one_reply laws O A q rising B t (N.state_of {name} L p D is named here) C u (N.state_of M r E it other there) =
     let same : L ≡ M = one_network O.start A.schedule A.position L M is it in
-    (refl, ap (dump_line O.names name) (there_once L M p r D E same (one_named O.names name p r rising named other) here there))
+    (refl, ap (Y.state_of name) (there_once L M p r D E same (one_named O.names name p r rising named other) here there))
 one_reply laws O A q rising B t (N.state_of {name} L p D is named here) C u (N.no_state none) = absurd (known O.names name p named none)
 one_reply laws O A q rising B t (N.no_state {name} none) C u (N.state_of L p D is named here) = absurd (known O.names name p named none)
 one_reply laws O A q rising B t (N.no_state none) C u (N.no_state other) = (refl, refl)
 one_reply laws O A q rising B t (N.traces {n} {event} {rows} is makes) C u (N.traces {n = m} {event = other} {rows = others} it too) =
     let same : n ≡ m = omega (arith, is, it) in
     let one = one_makes O.start A.schedule m event other rows others (subst (λ (k : ℕ). MakesEvent O.start A.schedule k event rows) same makes) too in
-    (refl, λ i. block_text O.names (same i + 1) (one.0 i) (one.1 i))
+    (refl, λ i. Y.traced (same i + 1) (one.0 i) (one.1 i))
 one_reply laws O A q rising B t (N.traces {n} is makes) C u (N.at_start it) = absurd (omega (arith, is, it))
 one_reply laws O A q rising B t (N.at_start is) C u (N.traces {n} it makes) = absurd (omega (arith, is, it))
 one_reply laws O A q rising B t (N.at_start is) C u (N.at_start it) = (refl, refl)
-one_reply laws O A q rising B t (N.enables L ls is listed) C u (N.enables M ms it other) = (refl, ap (λ (es : List Event). or_none_text (event_lines O.names es)) (enabled_once O A L M ls ms is it listed other))
+one_reply laws O A q rising B t (N.enables L ls is listed) C u (N.enables M ms it other) = (refl, ap Y.enabled (enabled_once O A L M ls ms is it listed other))
 one_reply laws O A q rising B t N.lists C u N.lists = (refl, refl)
 one_reply laws O A q rising B t N.tells C u N.tells = (refl, refl)
-one_reply laws O A q rising B t (N.compares {name} {other} L p r D E is one two here there found) C u (N.compares M s v F G it first second at too more) =
+one_reply laws O A q rising B t (N.compares {name} {other} {found = x} L p r D E is one two here there found) C u (N.compares {found = y} M s v F G it first second at too more) =
     let same : L ≡ M = one_network O.start A.schedule A.position L M is it in
     let left : D ≡ F = there_once L M p s D F same (one_named O.names name p s rising one first) here at in
     let right : E ≡ G = there_once L M r v E G same (one_named O.names other r v rising two second) there too in
-    (refl, compared_once F G t u (subst (λ (x : State). Compares F x t) right (subst (λ (x : State). Compares x E t) left found)) more)
+    (refl, ap Y.compared (compared_once F G x y (subst (λ (K : State). Compares F K x) right (subst (λ (K : State). Compares K E x) left found)) more))
 one_reply laws O A q rising B t (N.compares {name} {other} L p r D E is one two here there found) C u (N.no_compared none) = absurd (both_known O.names name other p r one two none)
 one_reply laws O A q rising B t (N.no_compared {name} {other} none) C u (N.compares L p r D E is one two here there found) = absurd (both_known O.names name other p r one two none)
 one_reply laws O A q rising B t (N.no_compared none) C u (N.no_compared other) = (refl, refl)
 
 -- ---- lines
 
--- `quit` has no answer
-no_reply : (O : Origin) (A B : Session) (t : List ℕ) → Replies O A Q.quit B t → ⊥
+-- `quit` has no reply
+no_reply : (O : Origin) (A B : Session) (t : Reply) → Replies O A Q.quit B t → ⊥
 no_reply O A B t r = elim r [ ]
 
 never_quit : (O : Origin) (A B : Session) (l : Line) (t : List ℕ) → LineAnswer O A l B t → meaning l ≡ asks Q.quit → ⊥
 never_quit O A B l t (N.empty is) e = let no : nothing ≡ asks Q.quit = sym is ∙ e in cc
 never_quit O A B l t (N.refused is) e = let no : bad ≡ asks Q.quit = sym is ∙ e in cc
-never_quit O A B l t (N.replies q is r) e =
+never_quit O A B l t (N.replies {reply} q is r) e =
     let asked : asks q ≡ asks Q.quit = sym is ∙ e in
     let same : q ≡ Q.quit = cc in
-    no_reply O A B t (subst (λ (x : Request). Replies O A x B t) same r)
+    no_reply O A B reply (subst (λ (x : Request). Replies O A x B reply) same r)
 
-one_answer : (laws : EventLaws) (O : Origin) (A B C : Session) (l : Line) (t u : List ℕ) → IsRising name_cmp O.names → LineAnswer O A l B t → LineAnswer O A l C u → Same B C t u
+one_answer : (laws : EventLaws) (O : Origin) (A B C : Session) (l : Line) (t u : List ℕ) → IsRising name_cmp O.names → LineAnswer O A l B t → LineAnswer O A l C u → (B ≡ C) × (t ≡ u)
 one_answer laws O A B C l t u rising (N.empty is) (N.empty it) = (refl, refl)
 one_answer laws O A B C l t u rising (N.empty is) (N.refused it) = let no : nothing ≡ bad = sym is ∙ it in absurd (cc)
 one_answer laws O A B C l t u rising (N.empty is) (N.replies q it r) = let no : nothing ≡ asks q = sym is ∙ it in absurd (cc)
@@ -238,10 +232,11 @@ one_answer laws O A B C l t u rising (N.refused is) (N.refused it) = (refl, refl
 one_answer laws O A B C l t u rising (N.refused is) (N.replies q it r) = let no : bad ≡ asks q = sym is ∙ it in absurd (cc)
 one_answer laws O A B C l t u rising (N.replies q is r) (N.empty it) = let no : asks q ≡ nothing = sym is ∙ it in absurd (cc)
 one_answer laws O A B C l t u rising (N.replies q is r) (N.refused it) = let no : asks q ≡ bad = sym is ∙ it in absurd (cc)
-one_answer laws O A B C l t u rising (N.replies q is r) (N.replies p it s) =
+one_answer laws O A B C l t u rising (N.replies {reply = x} q is r) (N.replies {reply = y} p it s) =
     let asked : asks q ≡ asks p = sym is ∙ it in
     let same : q ≡ p = cc in
-    one_reply laws O A p rising B t (subst (λ (x : Request). Replies O A x B t) same r) C u s
+    let one = one_reply laws O A p rising B x (subst (λ (w : Request). Replies O A w B x) same r) C y s in
+    (one.0, ap (reply_text O.names) one.1)
 
 -- ---- whole sessions
 

@@ -3,9 +3,11 @@ pub mod LineReadingLemmas
 pub mod RequestsLemmas
 pub mod LinesDueLemmas
 pub mod EventNamesLemmas
+pub mod ChosenEventsLemmas
 pub mod SessionTextLemmas
 pub mod TextsListLemmas
 pub mod AnswerOfLemmas
+pub mod AnswerTextLemmas
 pub mod FaultLinesLemmas
 pub mod AnswersUniqueLemmas
 pub mod LawsLemmas

@@ -14,7 +14,7 @@ use Rattle.jc_session.specs.Lines.{Line, whole_line, last_line}
 use Rattle.jc_session.specs.Requests as Q
 use Rattle.jc_session.specs.Requests.{Request, Meaning, nothing, asks, bad, meaning}
 use Rattle.jc_session.specs.SessionText.{AnswersLines, End, finished, too_many, text_refused, given_stuck, Ends, at_the_end, at_quit, AreWithin, Talks, refused, stuck, talks}
-use Rattle.jc_session.specs.Texts.{refusal_line}
+use Rattle.jc_session.specs.Texts.{refusal_line, reply_text}
 use Rattle.jc_session.proofs.LinesDueLemmas.{lines_of}
 use Rattle.jc_session.proofs.TextFaultsLemmas.{fault_line, fault_told}
 use Rattle.jc_session.proofs.SomeReplyLemmas.{ReplyLaws, IsGood, Replied, some_reply}
@@ -56,7 +56,7 @@ module _ (laws : ReplyLaws) (s : Scenario) (start : Network) (begins : IsStart s
     where
       by_reply : (q : Request) → meaning x ≡ asks q → (q ≡ Q.quit) ⊎ Replied s start A q → Turn s start A x
       by_reply q e (inl same) = quits (e ∙ ap asks same)
-      by_reply q e (inr r) = goes_on r.after r.text r.good (N.replies q e r.replies)
+      by_reply q e (inr r) = goes_on r.after (reply_text s.names r.reply) r.good (N.replies q e r.replies)
 
       by_meaning : (m : Meaning) → meaning x ≡ m → Turn s start A x
       by_meaning nothing e = goes_on A [] good (N.empty e)

@@ -1,5 +1,5 @@
--- What each request leads to, and the answers of lines: the text of a session is made of these.
-use Rattle.std.specs.Prelude.{◌≡◌, ◌≢◌, ℕ, ◌+◌, ◌-◌, ◌≤◌, ◌<◌, List, [], ◌++◌, length, slice_get, Option, Some, None, Contains, ◌⊎◌, codes}
+-- What each request leads to and its reply, and the answers of lines: the text of a session is made of these.
+use Rattle.std.specs.Prelude.{◌≡◌, ◌≢◌, ℕ, ◌+◌, ◌-◌, ◌≤◌, ◌<◌, List, [], length, slice_get, Option, Some, None, Contains, ◌⊎◌, true, false}
 use Rattle.jc_rules.specs.declared.limits.TheConstants.{MAX_EVENTS}
 use Rattle.jc_rules.specs.declared.operation.Event.{Event}
 use Rattle.jc_rules.specs.declared.refusal.Refusal.{Refusal}
@@ -20,16 +20,18 @@ use Rattle.jc_parser.specs.Events.{IsEventOf, IsEventFault}
 use Rattle.jc_scenario.specs.Resolved.{IsResolved, names_in_event, IsFirstStranger}
 use Rattle.jc_scenario.specs.WellFormed.{Scenario}
 use Rattle.jc_network.specs.Enabled.{AreEnabled, candidates}
-use Rattle.jc_dump.specs.Dump.{dump_line}
-use Rattle.jc_dump.specs.Lines.{stuck_text}
-use Rattle.jc_dump.specs.Texts.{block_text, dumps_text, refused_text}
+use Rattle.jc_dump.specs.Texts.{refused_text}
 use Rattle.jc_debug.specs.declared.breaks.Break.{Break}
 use Rattle.jc_debug.specs.declared.breaks.Break.TheVariants as Kind
 use Rattle.jc_debug.specs.DebuggerState.{Session, IsNetworkAt, MakesEvent, StuckEvent, GoesTo, IsLeast, RunOutcome, Runs, moved_to, acted, with_break}
+use Rattle.jc_meaning.specs.declared.comparison.Comparison.{Comparison}
+use Rattle.jc_meaning.specs.declared.comparison.Comparison.TheVariants.{SameOps, DifferentOps}
 use Rattle.jc_session.specs.Lines.{Line}
+use Rattle.jc_session.specs.Reply as Y
+use Rattle.jc_session.specs.Reply.{Reply}
 use Rattle.jc_session.specs.Requests as Q
 use Rattle.jc_session.specs.Requests.{Request, nothing, asks, bad, meaning}
-use Rattle.jc_session.specs.Texts.{refusal_line, at_line, set_line, cleared_line, where_line, went_text, ran_text, numbered_lines, event_lines, or_none_text}
+use Rattle.jc_session.specs.Texts.{refusal_line, reply_text}
 
 -- what no line of a session changes: the replicas' names, and the network at position 0
 pub record Origin : Type 0 where
@@ -68,17 +70,18 @@ IsFaultLine fault text = IsRefusalAt (fault_refusal fault) (fault_offset fault) 
 
 -- ---- parts of answers
 
--- The rest of an `act` line is no event of the version, or it has a name that no replica has. Its text is the refusal's
--- line.
-pub data IsMisspelled (version : Version) (names : List (List ℕ)) (rest : List ℕ) : List ℕ → Type 0 where
-  faulty : {text : List ℕ} (fault : ScenarioFault)
+-- The rest of an `act` line is no event of the version, or it has a name that no replica has. It is refused at this
+-- offset.
+pub data IsMisspelled (version : Version) (names : List (List ℕ)) (rest : List ℕ) : Refusal → ℕ → Type 0 where
+  faulty : {refusal : Refusal} {place : ℕ} (fault : ScenarioFault)
       → IsEventFault version rest fault
-      → IsFaultLine fault text
-      → IsMisspelled version names rest text
+      → fault_refusal fault ≡ Some refusal
+      → fault_offset fault ≡ Some place
+      → IsMisspelled version names rest refusal place
   strange : (named : NamedEvent) (place : ℕ)
       → IsEventOf version rest named
       → IsFirstStranger names (names_in_event named) place
-      → IsMisspelled version names rest (refused_text F.UnknownReplica place)
+      → IsMisspelled version names rest F.UnknownReplica place
 
 -- the rest of an `act` line is this event of the version
 pub record IsEventText (version : Version) (names : List (List ℕ)) (rest : List ℕ) (event : Event) : Type 0 where
@@ -87,124 +90,122 @@ pub record IsEventText (version : Version) (names : List (List ℕ)) (rest : Lis
   pub resolved : IsResolved names named event
 
 -- An event is made at the position, where a schedule may be longer than that and the event isn't stuck.
-pub data ActsOn (O : Origin) (A : Session) (event : Event) : Session → List ℕ → Type 0 where
-  full : A.position ≡ MAX_EVENTS → ActsOn O A event A (refusal_line F.TooManyEvents)
+pub data ActsOn (O : Origin) (A : Session) (event : Event) : Session → Reply → Type 0 where
+  full : A.position ≡ MAX_EVENTS → ActsOn O A event A (Y.refused F.TooManyEvents)
   stuck : (why : Cause) (network : Network)
       → A.position < MAX_EVENTS
       → IsNetworkAt O.start A.schedule A.position network
       → IsStuckIn network event why
-      → ActsOn O A event A (at_line A.position ++ stuck_text O.names why event)
+      → ActsOn O A event A (Y.went A.position (Some (event, why)))
   made : (network new : Network) (rows : List (Rule × ℕ))
       → A.position < MAX_EVENTS
       → IsNetworkAt O.start A.schedule A.position network
       → StepIn network event new rows
-      → ActsOn O A event (acted A event) (at_line (A.position + 1))
+      → ActsOn O A event (acted A event) (Y.went (A.position + 1) None)
 
 -- A new breakpoint gets the least place that is free.
-pub data Sets (A : Session) (b : Break) : Session → List ℕ → Type 0 where
+pub data Sets (A : Session) (b : Break) : Session → Reply → Type 0 where
   set : {j : ℕ}
       → IsLeast (λ i. slice_get A.breaks i ≡ Some None) j
-      → Sets A b (with_break A j (Some b)) (set_line (j + 1))
-  none_free : ((j : ℕ) → slice_get A.breaks j ≢ Some None) → Sets A b A (refusal_line F.TooManyBreaks)
+      → Sets A b (with_break A j (Some b)) (Y.set (j + 1))
+  none_free : ((j : ℕ) → slice_get A.breaks j ≢ Some None) → Sets A b A (Y.refused F.TooManyBreaks)
 
 -- Two states have applied the same operations, and their trees are the same or not once empty presence sets are
 -- dropped; or they have applied different ones.
-pub data Compares (C D : State) : List ℕ → Type 0 where
-  same_tree : C.ops ≡ D.ops → drop C.tree ≡ drop D.tree → Compares C D (codes "same operations same tree\n")
-  different_tree : C.ops ≡ D.ops
-      → drop C.tree ≢ drop D.tree
-      → Compares C D (codes "same operations different tree\n")
-  different_ops : C.ops ≢ D.ops → Compares C D (codes "different operations\n")
+pub data Compares (C D : State) : Comparison → Type 0 where
+  same_tree : C.ops ≡ D.ops → drop C.tree ≡ drop D.tree → Compares C D (SameOps true)
+  different_tree : C.ops ≡ D.ops → drop C.tree ≢ drop D.tree → Compares C D (SameOps false)
+  different_ops : C.ops ≢ D.ops → Compares C D DifferentOps
 
 -- ---- requests
 
--- What a request leads to, and the text of its answer. `quit` has none.
-pub data Replies (O : Origin) (A : Session) : Request → Session → List ℕ → Type 0 where
+-- What a request leads to, and its reply. `quit` has none.
+pub data Replies (O : Origin) (A : Session) : Request → Session → Reply → Type 0 where
   steps : {n p : ℕ} {end : Option StuckEvent}
       → A.position + n ≤ length A.schedule
       → GoesTo O.start A.schedule A.position (A.position + n) p end
-      → Replies O A (Q.step n) (moved_to A p) (went_text O.names p end)
+      → Replies O A (Q.step n) (moved_to A p) (Y.went p end)
   steps_past : {n : ℕ}
       → length A.schedule < A.position + n
-      → Replies O A (Q.step n) A (refusal_line F.AtEnd)
+      → Replies O A (Q.step n) A (Y.refused F.AtEnd)
   goes_back : {n : ℕ}
       → n ≤ A.position
-      → Replies O A (Q.back n) (moved_to A (A.position - n)) (at_line (A.position - n))
-  back_past : {n : ℕ} → A.position < n → Replies O A (Q.back n) A (refusal_line F.AtStart)
+      → Replies O A (Q.back n) (moved_to A (A.position - n)) (Y.went (A.position - n) None)
+  back_past : {n : ℕ} → A.position < n → Replies O A (Q.back n) A (Y.refused F.AtStart)
   goes_to : {n p : ℕ} {end : Option StuckEvent}
       → n ≤ length A.schedule
       → GoesTo O.start A.schedule A.position n p end
-      → Replies O A (Q.goto n) (moved_to A p) (went_text O.names p end)
-  goes_past : {n : ℕ} → length A.schedule < n → Replies O A (Q.goto n) A (refusal_line F.PastSchedule)
-  acts : {rest text : List ℕ} {B : Session} (event : Event)
+      → Replies O A (Q.goto n) (moved_to A p) (Y.went p end)
+  goes_past : {n : ℕ} → length A.schedule < n → Replies O A (Q.goto n) A (Y.refused F.PastSchedule)
+  acts : {rest : List ℕ} {B : Session} {reply : Reply} (event : Event)
       → IsEventText O.start.version O.names rest event
-      → ActsOn O A event B text
-      → Replies O A (Q.act rest) B text
-  acts_misspelled : {rest text : List ℕ}
-      → IsMisspelled O.start.version O.names rest text
-      → Replies O A (Q.act rest) A text
+      → ActsOn O A event B reply
+      → Replies O A (Q.act rest) B reply
+  acts_misspelled : {rest : List ℕ} {refusal : Refusal} {place : ℕ}
+      → IsMisspelled O.start.version O.names rest refusal place
+      → Replies O A (Q.act rest) A (Y.misspelled refusal place)
   runs : {n : ℕ} {end : RunOutcome}
       → A.position < length A.schedule
       → Runs O.start A n end
-      → Replies O A Q.run (moved_to A n) (ran_text O.names n end)
-  runs_past : A.position ≡ length A.schedule → Replies O A Q.run A (refusal_line F.AtEnd)
-  breaks_at : {n : ℕ} {text : List ℕ} {B : Session}
-      → Sets A (Kind.Position n) B text
-      → Replies O A (Q.break_at n) B text
-  breaks_rule : {name text : List ℕ} {B : Session} (rule : Rule)
+      → Replies O A Q.run (moved_to A n) (Y.ran n end)
+  runs_past : A.position ≡ length A.schedule → Replies O A Q.run A (Y.refused F.AtEnd)
+  breaks_at : {n : ℕ} {B : Session} {reply : Reply}
+      → Sets A (Kind.Position n) B reply
+      → Replies O A (Q.break_at n) B reply
+  breaks_rule : {name : List ℕ} {B : Session} {reply : Reply} (rule : Rule)
       → Knows rule O.start.version
       → rule_name rule ≡ name
-      → Sets A (Kind.Rule rule) B text
-      → Replies O A (Q.break_rule name) B text
+      → Sets A (Kind.Rule rule) B reply
+      → Replies O A (Q.break_rule name) B reply
   no_rule : {name : List ℕ}
       → ((rule : Rule) → Knows rule O.start.version → rule_name rule ≢ name)
-      → Replies O A (Q.break_rule name) A (refusal_line F.BadLine)
-  breaks_replica : {name text : List ℕ} {B : Session} (p : ℕ)
+      → Replies O A (Q.break_rule name) A (Y.refused F.BadLine)
+  breaks_replica : {name : List ℕ} {B : Session} {reply : Reply} (p : ℕ)
       → IsNamed O.names name p
-      → Sets A (Kind.Replica p) B text
-      → Replies O A (Q.break_replica name) B text
+      → Sets A (Kind.Replica p) B reply
+      → Replies O A (Q.break_replica name) B reply
   no_replica : {name : List ℕ}
       → IsStrange O.names name
-      → Replies O A (Q.break_replica name) A (refusal_line F.UnknownReplica)
+      → Replies O A (Q.break_replica name) A (Y.refused F.UnknownReplica)
   clears : (j : ℕ) (b : Break)
       → slice_get A.breaks j ≡ Some (Some b)
-      → Replies O A (Q.unbreak (j + 1)) (with_break A j None) (cleared_line (j + 1))
+      → Replies O A (Q.unbreak (j + 1)) (with_break A j None) (Y.cleared (j + 1))
   no_break : {k : ℕ}
       → ((j : ℕ) (b : Break) → k ≡ j + 1 → slice_get A.breaks j ≢ Some (Some b))
-      → Replies O A (Q.unbreak k) A (refusal_line F.NoSuchBreak)
+      → Replies O A (Q.unbreak k) A (Y.refused F.NoSuchBreak)
   states : (network : Network)
       → IsNetworkAt O.start A.schedule A.position network
-      → Replies O A Q.state A (dumps_text O.names network.states)
+      → Replies O A Q.state A (Y.states network.states)
   state_of : {name : List ℕ} (network : Network) (p : ℕ) (C : State)
       → IsNetworkAt O.start A.schedule A.position network
       → IsNamed O.names name p
       → slice_get network.states p ≡ Some C
-      → Replies O A (Q.state_of name) A (dump_line O.names name C)
+      → Replies O A (Q.state_of name) A (Y.state_of name C)
   no_state : {name : List ℕ}
       → IsStrange O.names name
-      → Replies O A (Q.state_of name) A (refusal_line F.UnknownReplica)
+      → Replies O A (Q.state_of name) A (Y.refused F.UnknownReplica)
   traces : {n : ℕ} {event : Event} {rows : List (Rule × ℕ)}
       → A.position ≡ n + 1
       → MakesEvent O.start A.schedule n event rows
-      → Replies O A Q.trace A (block_text O.names (n + 1) event rows)
-  at_start : A.position ≡ 0 → Replies O A Q.trace A (codes "start\n")
+      → Replies O A Q.trace A (Y.traced (n + 1) event rows)
+  at_start : A.position ≡ 0 → Replies O A Q.trace A Y.at_start
   enables : (network : Network) (events : List Event)
       → IsNetworkAt O.start A.schedule A.position network
       → AreEnabled network (candidates network) events
-      → Replies O A Q.enabled A (or_none_text (event_lines O.names events))
-  lists : Replies O A Q.schedule A (or_none_text (numbered_lines O.names 1 A.schedule))
-  tells : Replies O A Q.position A (where_line A.position (length A.schedule))
-  compares : {name other text : List ℕ} (network : Network) (p q : ℕ) (C D : State)
+      → Replies O A Q.enabled A (Y.enabled events)
+  lists : Replies O A Q.schedule A (Y.scheduled A.schedule)
+  tells : Replies O A Q.position A (Y.stands A.position (length A.schedule))
+  compares : {name other : List ℕ} {found : Comparison} (network : Network) (p q : ℕ) (C D : State)
       → IsNetworkAt O.start A.schedule A.position network
       → IsNamed O.names name p
       → IsNamed O.names other q
       → slice_get network.states p ≡ Some C
       → slice_get network.states q ≡ Some D
-      → Compares C D text
-      → Replies O A (Q.compare name other) A text
+      → Compares C D found
+      → Replies O A (Q.compare name other) A (Y.compared found)
   no_compared : {name other : List ℕ}
       → IsStrange O.names name ⊎ IsStrange O.names other
-      → Replies O A (Q.compare name other) A (refusal_line F.UnknownReplica)
+      → Replies O A (Q.compare name other) A (Y.refused F.UnknownReplica)
 
 -- ---- lines
 
@@ -212,7 +213,7 @@ pub data Replies (O : Origin) (A : Session) : Request → Session → List ℕ �
 pub data LineAnswer (O : Origin) (A : Session) (l : Line) : Session → List ℕ → Type 0 where
   empty : meaning l ≡ nothing → LineAnswer O A l A []
   refused : meaning l ≡ bad → LineAnswer O A l A (refusal_line F.BadLine)
-  replies : {B : Session} {text : List ℕ} (request : Request)
+  replies : {B : Session} {reply : Reply} (request : Request)
       → meaning l ≡ asks request
-      → Replies O A request B text
-      → LineAnswer O A l B text
+      → Replies O A request B reply
+      → LineAnswer O A l B (reply_text O.names reply)

@@ -2,6 +2,7 @@ pub mod Lines
 pub mod LineReading
 pub mod Requests
 pub mod Views
+pub mod Reply
 pub mod Texts
 pub mod Answers
 pub mod SessionText

@@ -1,13 +1,17 @@
--- The texts of answers that no other crate has: the answers of lines are made of them.
+-- The texts of replies: what a session writes. Those that no other crate has are defined here.
 use Rattle.std.specs.Prelude.{ℕ, ◌+◌, List, [], ◌∷◌, ◌++◌, flat_map, Option, Some, None, true, false, codes, decimal}
 use Rattle.jc_rules.specs.declared.operation.Event.{Event}
 use Rattle.jc_rules.specs.declared.refusal.Refusal.{Refusal}
 use Rattle.jc_rules.specs.Refusals.{refusal_number, refusal_name}
 use Rattle.jc_printer.specs.Canon.{canon_event}
+use Rattle.jc_dump.specs.Dump.{dump_line}
 use Rattle.jc_dump.specs.Lines.{stuck_text}
+use Rattle.jc_dump.specs.Texts.{block_text, dumps_text, refused_text}
 use Rattle.jc_debug.specs.DebuggerState.{StuckEvent, RunOutcome, breaks, sticks, ends}
 use Rattle.jc_meaning.specs.declared.comparison.Comparison.{Comparison}
 use Rattle.jc_meaning.specs.declared.comparison.Comparison.TheVariants.{SameOps, DifferentOps}
+use Rattle.jc_session.specs.Reply as Y
+use Rattle.jc_session.specs.Reply.{Reply}
 
 -- a refusal without a place
 abbrev pub refusal_line : Refusal → List ℕ
@@ -59,3 +63,20 @@ event_lines names events = flat_map (λ event. canon_event names event ++ codes 
 abbrev pub or_none_text : List ℕ → List ℕ
 or_none_text [] = codes "none\n"
 or_none_text (b ∷ bs) = b ∷ bs
+
+-- what a session writes for a reply
+abbrev pub reply_text : List (List ℕ) → Reply → List ℕ
+reply_text names (Y.refused refusal) = refusal_line refusal
+reply_text names (Y.misspelled refusal place) = refused_text refusal place
+reply_text names (Y.went n end) = went_text names n end
+reply_text names (Y.ran n end) = ran_text names n end
+reply_text names (Y.set k) = set_line k
+reply_text names (Y.cleared k) = cleared_line k
+reply_text names (Y.states all) = dumps_text names all
+reply_text names (Y.state_of name state) = dump_line names name state
+reply_text names (Y.traced n event rows) = block_text names n event rows
+reply_text names Y.at_start = codes "start\n"
+reply_text names (Y.enabled events) = or_none_text (event_lines names events)
+reply_text names (Y.scheduled events) = or_none_text (numbered_lines names 1 events)
+reply_text names (Y.stands n length) = where_line n length
+reply_text names (Y.compared found) = compared_line found

@@ -6,8 +6,11 @@ mod answers;
 pub mod laws;
 mod line_buffer;
 mod lines;
+mod replies;
 mod request;
 mod sessions;
 mod texts;
 
+pub use replies::{Reply, reply_to};
+pub use request::{Meaning, Request, meaning_of};
 pub use sessions::{SessionEnd, SessionFault, session};

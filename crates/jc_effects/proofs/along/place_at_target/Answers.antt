@@ -1,4 +1,4 @@
-use Rattle.std.proofs.Common.{◌≡◌, List, not, refl, ◌∙◌, ap, subst}
+use Rattle.std.proofs.Common.{◌≡◌, List, ◌∙◌, subst}
 use Rattle.std.proofs.lemmas.Result.{IfOk-weaker}
 use Rattle.jc_rules.specs.declared.key.Key.{Key}
 use Rattle.jc_rules.specs.declared.key.Tagged.{Tagged}
@@ -7,14 +7,10 @@ use Rattle.jc_meaning.specs.Seen.{seen}
 use Rattle.jc_effects.specs.Difference.{own_difference, below, IsDifference}
 use Rattle.jc_effects.specs.Parts.{own_seen, differences_of}
 use Rattle.jc_effects.proofs.PartsAlongLemmas.{changed_place}
-use Rattle.jc_effects.proofs.PartsTargetLemmas.{at_target}
 use Rattle.jc_effects.proofs.along.place_at_target.Goals as goal
 
-pub own_at-requires-clause-may : goal.own_at-requires-clause-may
-own_at-requires-clause-may g c =
-    at_target c.args.change.now.op.now c.as_slice.result.now c.args.key.now _
-    (c.as_slice.ensures.value ∙ c.in_ok-map.ensures.path ∙ c.in_ok-list.ensures.path ∙ c.requires.path) c.requires.target
-    (ap not c.is_delete.ensures) c.is_clearing.ensures refl
+pub own_at_target-requires-clause-path : goal.own_at_target-requires-clause-path
+own_at_target-requires-clause-path g c = c.as_slice.ensures.value ∙ c.in_ok-map.ensures.path ∙ c.in_ok-list.ensures.path ∙ c.requires.path
 
 pub returns : goal.returns
 returns g c =

@@ -1,21 +1,13 @@
-use Rattle.std.proofs.Common.{◌≡◌, ◌++◌, ◌∷◌, not, false, sym, ◌∙◌, ap, subst}
+use Rattle.std.proofs.Common.{◌≡◌, ◌++◌, ◌∷◌, ◌∙◌, ap, subst}
 use Rattle.std.proofs.lemmas.Result.{IfOk-weaker}
 use Rattle.jc_rules.specs.declared.key.Key.{Key}
 use Rattle.jc_rules.specs.declared.key.Tagged.{Tagged}
 use Rattle.jc_rules.specs.Context.{key_of_tagged}
 use Rattle.jc_meaning.specs.Seen.{seen}
-use Rattle.jc_effects.specs.declared.along.May.{May}
 use Rattle.jc_effects.specs.Difference.{own_difference, below, IsDifference}
-use Rattle.jc_effects.specs.Parts.{MayDiffer, own_seen, differences_of}
+use Rattle.jc_effects.specs.Parts.{own_seen, differences_of}
 use Rattle.jc_effects.proofs.PartsAlongLemmas.{map_on_path, list_on_path, register_on_path}
-use Rattle.jc_effects.proofs.PartsTargetLemmas.{on_path}
 use Rattle.jc_effects.proofs.along.place_on_path.Goals as goal
-
-pub own_at-requires-clause-may : goal.own_at-requires-clause-may
-own_at-requires-clause-may g c =
-    let o = c.args.change.now.op.now in
-    let may : May = record { gain = not c.is_delete.result; clear = false; values = false } in
-    subst (λ (k : Key). MayDiffer o c.args.at.now k may) (sym c.key.ensures) (on_path o c.args.at.now c.args.tagged.now c.requires.path.0 may c.requires.path.1 (ap not c.is_delete.ensures))
 
 pub returns-in-MapT : goal.returns-in-MapT
 returns-in-MapT g c =
@@ -25,7 +17,7 @@ returns-in-MapT g c =
     let at = c.args.at.now in
     let k = c.in-MapT.key in
     let own : own_seen k c.in_ok-own.own ≡ own_difference k (seen at old) (seen at new) =
-    subst (λ (j : Key). own_seen j c.in_ok-own.own ≡ own_difference j (seen at old) (seen at new)) (c.key.ensures ∙ ap key_of_tagged c.in-MapT.is) c.in_ok-own.ensures in
+    subst (λ (j : Key). own_seen j c.in_ok-own.own ≡ own_difference j (seen at old) (seen at new)) (ap key_of_tagged c.in-MapT.is) c.in_ok-own.ensures in
     let path = c.requires.path.1 ∙ ap (λ (u : Tagged). at ++ u ∷ c.requires.path.0) c.in-MapT.is in
     let inside = subst (λ (u : Tagged). IsDifference (below u (seen at old)) (below u (seen at new)) (differences_of c.args.inside)) c.in-MapT.is c.requires.inside in
     IfOk-weaker c.with_place.result _ _
@@ -40,7 +32,7 @@ returns-in-ListT g c =
     let at = c.args.at.now in
     let k = c.in-ListT.key in
     let own : own_seen k c.in_ok-own.own ≡ own_difference k (seen at old) (seen at new) =
-    subst (λ (j : Key). own_seen j c.in_ok-own.own ≡ own_difference j (seen at old) (seen at new)) (c.key.ensures ∙ ap key_of_tagged c.in-ListT.is) c.in_ok-own.ensures in
+    subst (λ (j : Key). own_seen j c.in_ok-own.own ≡ own_difference j (seen at old) (seen at new)) (ap key_of_tagged c.in-ListT.is) c.in_ok-own.ensures in
     let path = c.requires.path.1 ∙ ap (λ (u : Tagged). at ++ u ∷ c.requires.path.0) c.in-ListT.is in
     let inside = subst (λ (u : Tagged). IsDifference (below u (seen at old)) (below u (seen at new)) (differences_of c.args.inside)) c.in-ListT.is c.requires.inside in
     IfOk-weaker c.with_place-in-ListT.result _ _
@@ -55,7 +47,7 @@ returns-in-RegT g c =
     let at = c.args.at.now in
     let k = c.in-RegT.key in
     let own : own_seen k c.in_ok-own.own ≡ own_difference k (seen at old) (seen at new) =
-    subst (λ (j : Key). own_seen j c.in_ok-own.own ≡ own_difference j (seen at old) (seen at new)) (c.key.ensures ∙ ap key_of_tagged c.in-RegT.is) c.in_ok-own.ensures in
+    subst (λ (j : Key). own_seen j c.in_ok-own.own ≡ own_difference j (seen at old) (seen at new)) (ap key_of_tagged c.in-RegT.is) c.in_ok-own.ensures in
     let path = c.requires.path.1 ∙ ap (λ (u : Tagged). at ++ u ∷ c.requires.path.0) c.in-RegT.is in
     IfOk-weaker c.with_place-in-RegT.result _ _
     (λ e f. register_on_path o old new c.requires.changed at c.requires.path.0 c.in_ok-own.own (differences_of c.args.inside) (differences_of e) k path own f)

@@ -8,9 +8,9 @@ use Rattle.jc_tree.specs.Tree.{here, all_keys, keys_lent}
 use Rattle.jc_tree.specs.Nested.{nested}
 use Rattle.jc_meaning.specs.Seen.{seen}
 use Rattle.jc_meaning.proofs.ClearingEffectsLemmas.{seen_append}
-use Rattle.jc_effects.specs.Difference.{own_difference, below, IsDifference}
+use Rattle.jc_effects.specs.Difference.{OwnDifference, own_difference, below, IsDifference}
 use Rattle.jc_effects.specs.Parts.{IsNameOf, AreContexts, AreLater, IsDifferenceAmong, OnlyLosesAt, OnlyLoses, own_seen, differences_of}
-use Rattle.jc_effects.proofs.PartsAlongLemmas.{lost_place, below_longer, longer_below}
+use Rattle.jc_effects.proofs.PartsAlongLemmas.{empty_is, lost_place, kept_place, below_longer, longer_below}
 use Rattle.jc_effects.proofs.PartsLossesLemmas.{PassedBack, none_new, loses_below, passed_none, passed_one, passed_all, lent_last, emptied}
 use Rattle.jc_effects.proofs.PartsReadLemmas.{IsNew, new_inside, seen_here, smaller_below}
 use Rattle.jc_effects.proofs.below.+below.Goals as goal
@@ -65,8 +65,17 @@ pub place_below-own_lost-requires-clause-losses : goal.place_below-own_lost-requ
 place_below-own_lost-requires-clause-losses g t c =
     let old = (g.S.TreeStore.tree c.args.change.now.old.now).now in
     let new = (g.S.TreeStore.tree c.args.change.now.new.now).now in
-    let at_is : c.as_slice.result.now ≡ c.args.at.now.items = c.as_slice.ensures.value ∙ c.in_ok-map.ensures.path ∙ c.in_ok-list.ensures.path in
-    subst (λ (p : List Tagged). OnlyLosesAt c.args.key.now (seen p old) (seen p new)) (sym at_is) (c.requires.losses [] c.args.key.now)
+    subst (λ (p : List Tagged). OnlyLosesAt c.args.key.now (seen p old) (seen p new)) (sym c.as_slice.ensures.value) (c.requires.losses.losses [] c.args.key.now)
+
+-- nothing goes there
+pub place_below-returns-then-is_empty-clause-difference : goal.place_below-returns-then-is_empty-clause-difference
+place_below-returns-then-is_empty-clause-difference g t c =
+    let old = (g.S.TreeStore.tree c.args.change.now.old.now).now in
+    let new = (g.S.TreeStore.tree c.args.change.now.new.now).now in
+    let k = c.args.key.now in
+    let own : own_seen k c.in_ok-own.own ≡ own_difference k (seen c.args.at.now.items old) (seen c.args.at.now.items new) =
+    subst (λ (p : List Tagged). own_seen k c.in_ok-own.own ≡ own_difference k (seen p old) (seen p new)) c.as_slice.ensures.value c.in_ok-own.ensures in
+    kept_place k (seen c.args.at.now.items old) (seen c.args.at.now.items new) c.in_ok-own.own.lost.items (differences_of c.args.rest) c.requires.losses (ap (λ (d : OwnDifference). d.lost) own) (empty_is c.in_ok-own.own.lost.items _ (omega (arith, c.in_ok-own.own.lost.ok.0)) (sym c.is_empty.ensures ∙ c.if-is_empty.true))
 
 pub place_below-returns-clause-difference : goal.place_below-returns-clause-difference
 place_below-returns-clause-difference g t c =
@@ -75,9 +84,8 @@ place_below-returns-clause-difference g t c =
     let at = c.args.at.now.items in
     let k = c.args.key.now in
     let at1 : c.child_below.new.at.items ≡ at = c.in_ok-list.ensures.path in
-    let at_is : c.as_slice.result.now ≡ at = c.as_slice.ensures.value ∙ c.in_ok-map.ensures.path ∙ at1 in
     let own : own_seen k c.in_ok-own.own ≡ own_difference k (seen at old) (seen at new) =
-    subst (λ (p : List Tagged). own_seen k c.in_ok-own.own ≡ own_difference k (seen p old) (seen p new)) at_is c.in_ok-own.ensures in
+    subst (λ (p : List Tagged). own_seen k c.in_ok-own.own ≡ own_difference k (seen p old) (seen p new)) c.as_slice.ensures.value c.in_ok-own.ensures in
     let lists : IsDifference (below (ListT k) (seen at old)) (below (ListT k) (seen at new)) (differences_of c.in_ok-list.list) =
     subst (λ (j : Key). IsDifference (below (ListT j) (seen at old)) (below (ListT j) (seen at new)) (differences_of c.in_ok-list.list)) c.in_ok-copy.ensures c.in_ok-list.ensures.difference in
     let maps : IsDifference (below (MapT k) (seen at old)) (below (MapT k) (seen at new)) (differences_of c.in_ok-map.map) =

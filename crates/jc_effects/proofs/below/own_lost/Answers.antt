@@ -1,5 +1,4 @@
 use Rattle.std.proofs.Common.{refl}
-use Rattle.std.proofs.lemmas.Result.{IfOk-weaker}
 use Rattle.jc_meaning.specs.Seen.{seen}
 use Rattle.jc_effects.proofs.PartsOwnLemmas.{lost_own}
 use Rattle.jc_effects.proofs.below.own_lost.Goals as goal
@@ -9,6 +8,5 @@ returns g c =
     let at = c.args.at.now in
     let old = seen at (g.S.TreeStore.tree c.args.change.now.old.now).now in
     let new = seen at (g.S.TreeStore.tree c.args.change.now.new.now).now in
-    IfOk-weaker c.own_between.result _ _
-    (λ own f. lost_own c.args.key.now old new c.entries_at-was.result c.entries_at-now.result _ own c.entries_at-was.ensures c.entries_at-now.ensures c.requires.losses refl refl refl refl f)
-    c.own_between.ensures
+    lost_own c.args.key.now old new c.ids_in-was.result.now c.ids_in-now.result.now c.pairs_in-had.result.now c.pairs_in-has.result.now c.requires.losses c.ids_in-was.ensures.ids c.ids_in-now.ensures.ids c.pairs_in-had.ensures.pairs c.pairs_in-has.ensures.pairs
+    _ _ _ _ _ _ _ c.new.ensures.items c.in_ok-ids_without.ensures refl refl c.shown_between.ensures c.in_ok-pairs_without.ensures c.new-2.ensures.items

@@ -1,7 +1,7 @@
 use Rattle.std.proofs.Common.{string_bytes}
 use Rattle.std.proofs.lemmas.Result.{IfOk-weaker}
 use Rattle.jc_session.specs.Views.{line_of_bytes, request_view}
-use Rattle.jc_session.proofs.AnswerOfLemmas.{gives_nothing, gives_bad, gives_asks}
+use Rattle.jc_session.proofs.AnswerTextLemmas.{gives_nothing, gives_bad, gives_asks}
 use Rattle.jc_session.proofs.answers.answer.Goals as goal
 
 pub returns-in-Nothing : goal.returns-in-Nothing
@@ -9,7 +9,7 @@ returns-in-Nothing c = gives_nothing c.args.debugger.now (line_of_bytes c.args.l
 
 pub returns-in-Asks : goal.returns-in-Asks
 returns-in-Asks c =
-    IfOk-weaker c.reply.result _ _ (λ answer h. gives_asks string_bytes c.args.debugger.now c.reply.new.debugger (line_of_bytes c.args.line) (request_view c.in-Asks.request) answer c.in-Asks.ensures h) c.reply.ensures
+    IfOk-weaker c.answer_to.result _ _ (λ answer h. gives_asks string_bytes c.args.debugger.now c.answer_to.new.debugger (line_of_bytes c.args.line) (request_view c.in-Asks.request) answer c.in-Asks.ensures h) c.answer_to.ensures
 
 pub returns-in_ok-refusal_line-in-Bad : goal.returns-in_ok-refusal_line-in-Bad
 returns-in_ok-refusal_line-in-Bad c =

@@ -4,7 +4,7 @@ use Rattle.std.specs.List.{All}
 use Rattle.jc_rules.specs.declared.operation.Event.{Event}
 use Rattle.jc_printer.specs.Canon.{AreNamed}
 use Rattle.jc_network.specs.NetworkHistory.{NetworkHistory}
-use Rattle.jc_session.proofs.AnswerOfLemmas.{reply_schedule}
+use Rattle.jc_session.proofs.AnswerTextLemmas.{schedule_text}
 use Rattle.jc_session.proofs.answers.schedule.Goals as goal
 
 pub numbered_lines-requires : goal.numbered_lines-requires
@@ -16,4 +16,4 @@ numbered_lines-requires c =
 pub returns : goal.returns
 returns c =
     IfOk-weaker c.or_none.result _ _ (λ text h.
-    reply_schedule c.args.debugger.now c.net.result.now c.names.result.now c.schedule.result.now (string_bytes c.in_ok-text.text) (string_bytes text) c.net.ensures.net c.names.ensures.names c.schedule.ensures c.in_ok-text.ensures h) c.or_none.ensures
+    schedule_text c.args.debugger.now c.net.result.now c.names.result.now c.schedule.result.now (string_bytes c.in_ok-text.text) (string_bytes text) c.net.ensures.net c.names.ensures.names c.schedule.ensures c.in_ok-text.ensures h) c.or_none.ensures

@@ -1,11 +1,11 @@
 use Rattle.std.proofs.Common.{◌-◌, get_or, refl, string_bytes}
 use Rattle.std.proofs.lemmas.Result.{IfOk-weaker}
 use Rattle.jc_rules.specs.declared.operation.Event.TheVariants.{Exec}
-use Rattle.jc_session.proofs.AnswerOfLemmas.{event_at, reply_start, reply_trace, trace_named}
+use Rattle.jc_session.proofs.AnswerTextLemmas.{event_at, start_text, trace_text, trace_named}
 use Rattle.jc_session.proofs.answers.trace.Goals as goal
 
 pub returns-in_default : goal.returns-in_default
-returns-in_default c = IfOk-weaker c.from_str.result _ _ (λ text h. reply_start c.args.debugger.now (string_bytes text) (c.in_default.ensures.start.0 refl) h) c.from_str.ensures.ok
+returns-in_default c = IfOk-weaker c.from_str.result _ _ (λ text h. start_text c.args.debugger.now (string_bytes text) (c.in_default.ensures.start.0 refl) h) c.from_str.ensures.ok
 
 pub block_text-requires : goal.block_text-requires
 block_text-requires c =
@@ -22,4 +22,4 @@ returns c =
     let es = c.schedule.result.now in
     let n = c.position-n.result in
     IfOk-weaker c.block_text.result _ _ (λ text due.
-    reply_trace d t c.net.result.now c.names.result.now n (get_or es (n - 1) (Exec 0)) (string_bytes text) c.net.ensures.net c.names.ensures.names c.position-n.ensures.position c.in-Some.ensures.trace (event_at d t c.in-Some.ensures.trace es n (Exec 0) c.schedule.ensures c.position-n.ensures.position) due) c.block_text.ensures
+    trace_text d t c.net.result.now c.names.result.now n (get_or es (n - 1) (Exec 0)) (string_bytes text) c.net.ensures.net c.names.ensures.names c.position-n.ensures.position c.in-Some.ensures.trace (event_at d t c.in-Some.ensures.trace es n (Exec 0) c.schedule.ensures c.position-n.ensures.position) due) c.block_text.ensures

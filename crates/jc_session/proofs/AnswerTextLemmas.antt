@@ -1,0 +1,174 @@
+-- Of `AnswerOf`: the texts of replies in memory, and the answers of lines.
+use Rattle.std.proofs.Common.{◌≡◌, ℕ, ◌-◌, List, [], ◌++◌, length, slice_get, get_or, unwrap_or, Option, None, Some, MatchOption, codes, decimal, refl, ap, sym, subst, ◌∙◌, arith}
+use Rattle.std.specs.List.{All}
+use Rattle.std.proofs.lemmas.Option.{get_or_from_slice_get}
+use Rattle.jc_rules.specs.declared.operation.Event.{Event}
+use Rattle.jc_rules.specs.declared.refusal.Refusal.TheVariants as F
+use Rattle.jc_rules.specs.declared.rule.Rule.{Rule}
+use Rattle.jc_rules.specs.ReplicaNames.{name_at}
+use Rattle.jc_rules.specs.Refused.{Cause}
+use Rattle.jc_rules.specs.State.{State}
+use Rattle.jc_printer.specs.Canon.{AreNamed}
+use Rattle.jc_network.specs.declared.fault.Stuck.{Stuck}
+use Rattle.jc_network.specs.Enabled.{AreEnabled, candidates}
+use Rattle.jc_network.specs.NetworkHistory.{NetworkHistory}
+use Rattle.jc_network.specs.Steps.{stuck_for}
+use Rattle.jc_debug.specs.declared.fault.RunEnd.{RunEnd}
+use Rattle.jc_debug.specs.declared.fault.RunEnd.TheVariants as E
+use Rattle.jc_debug.specs.DebuggerState.{MakesEvent, RunOutcome}
+use Rattle.jc_debug.specs.Invariant.{Seen, start_of, session_of}
+use Rattle.jc_debug.specs.Moves.{IsTraceOf, IsEnd}
+use Rattle.jc_debug.proofs.BreaksLemmas.{one_makes}
+use Rattle.jc_dump.specs.Dump.{dump_line}
+use Rattle.jc_dump.specs.Lines.{stuck_text}
+use Rattle.jc_dump.specs.Texts.{block_text, dumps_text}
+use Rattle.jc_session.specs.declared.replies.Reply.{Reply as AnyReply}
+use Rattle.jc_session.specs.declared.replies.Reply.TheVariants as R
+use Rattle.jc_session.specs.Answers as A
+use Rattle.jc_session.specs.Answers.{Origin, LineAnswer}
+use Rattle.jc_session.specs.AnswerOf.{origin_in, AllNamed, IsTraceReply, traced, at_start, IsReply, IsNamedEnd, IsNamedReply, GivesReply, GivesAnswer, GivesLine}
+use Rattle.jc_session.specs.Lines.{Line}
+use Rattle.jc_session.specs.Reply as Y
+use Rattle.jc_session.specs.Reply.{Reply}
+use Rattle.jc_session.specs.Requests as Q
+use Rattle.jc_session.specs.Requests.{Request, nothing, asks, bad, meaning}
+use Rattle.jc_session.specs.Texts.{at_line, refusal_line, where_line, ran_text, event_lines, numbered_lines, or_none_text, reply_text}
+use Rattle.jc_session.proofs.AnswerOfLemmas.{of_all}
+use Rattle.jc_session.proofs.ChosenEventsLemmas.{one_enabled}
+use Rattle.jc_session.proofs.EventNamesLemmas.{replies_named, IsNamedIn, stuck_named}
+
+-- ---- runs
+
+-- the text of each end of a run
+pub ran_break : (names : List (List ℕ)) (n k : ℕ) (text : List ℕ) → text ≡ at_line n ++ (codes "break " ++ decimal k ++ codes "\n") → (outcome : RunOutcome) → IsEnd (E.Break k) outcome → text ≡ ran_text names n outcome
+ran_break names n k text h outcome (j, number, is) = h ∙ ap (λ (i : ℕ). at_line n ++ (codes "break " ++ decimal i ++ codes "\n")) number ∙ ap (ran_text names n) (sym is)
+
+pub ran_stuck : (names : List (List ℕ)) (n : ℕ) (s : Stuck) (text : List ℕ) → ((why : Cause) (event : Event) → s ≡ stuck_for why event → text ≡ at_line n ++ stuck_text names why event) → (outcome : RunOutcome) → IsEnd (E.Stuck s) outcome → text ≡ ran_text names n outcome
+ran_stuck names n s text h outcome (why, event, told, is) = h why event told ∙ ap (ran_text names n) (sym is)
+
+pub ran_end : (names : List (List ℕ)) (n : ℕ) (text : List ℕ) → text ≡ at_line n ++ codes "end\n" → (outcome : RunOutcome) → IsEnd E.End outcome → text ≡ ran_text names n outcome
+ran_end names n text h outcome is = h ∙ ap (ran_text names n) (sym is)
+
+-- ---- traces
+
+-- the event that led to the position
+pub event_at : (d : Seen) (t : List (Rule × ℕ)) (h : IsTraceOf d t) (es : List Event) (n : ℕ) (x : Event) → es ≡ d.schedule → n ≡ length d.traces → get_or es (n - 1) x ≡ h.event
+event_at d t h es n x same at =
+    let position = h.position in
+    let there : n - 1 ≡ h.before = omega (arith, position, at) in
+    ap (λ xs. get_or xs (n - 1) x) same ∙ get_or_from_slice_get d.schedule (n - 1) h.event x (subst (λ (m : ℕ). slice_get d.schedule m ≡ Some h.event) (sym there) h.makes.is)
+
+pub trace_named : (d : Seen) (t : List (Rule × ℕ)) (h : IsTraceOf d t) (net : NetworkHistory) (names : List (List ℕ)) (event : Event) → AllNamed d → net ≡ d.net → names ≡ net.names → event ≡ h.event → AreNamed event (length names)
+trace_named d t h net names event all same is event_is =
+    let known : d.net.names ≡ names = sym (is ∙ ap (λ (c : NetworkHistory). c.names) same) in
+    let named = of_all (λ x. AreNamed x (length d.net.names)) d.schedule h.before h.event all h.makes.is in
+    subst (λ (x : Event). AreNamed x (length names)) (sym event_is) (subst (λ (ns : List (List ℕ)). AreNamed h.event (length ns)) known named)
+
+pub trace_text : (d : Seen) (t : List (Rule × ℕ)) (net : NetworkHistory) (names : List (List ℕ)) (n : ℕ) (event : Event) (text : List ℕ) → net ≡ d.net → names ≡ net.names → n ≡ length d.traces → (h : IsTraceOf d t) → event ≡ h.event → text ≡ block_text names n event t → (r : Reply) → IsTraceReply d r → text ≡ reply_text d.net.names r
+trace_text d t net names n event text same is at h event_is due r (traced {rows} k) =
+    let known : names ≡ d.net.names = is ∙ ap (λ (c : NetworkHistory). c.names) same in
+    let here = h.position in
+    let there = k.position in
+    let number : h.before ≡ k.before = omega (arith, here, there) in
+    let one = one_makes (start_of d) d.schedule k.before h.event k.event t rows (subst (λ (m : ℕ). MakesEvent (start_of d) d.schedule m h.event t) number h.makes) k.makes in
+    let same_event : event ≡ k.event = event_is ∙ one.0 in
+    due ∙ (λ i. block_text (known i) (at i) (same_event i) (one.1 i))
+trace_text d t net names n event text same is at h event_is due r (at_start none) = let position = h.position in absurd (omega (arith, position, none))
+
+pub start_text : (d : Seen) (text : List ℕ) → length d.traces ≡ 0 → text ≡ codes "start\n" → (r : Reply) → IsTraceReply d r → text ≡ reply_text d.net.names r
+start_text d text none h r (at_start is) = h
+start_text d text none h r (traced k) = let position = k.position in absurd (omega (arith, position, none))
+
+-- ---- lists of events
+
+pub enabled_text : (net : NetworkHistory) (names : List (List ℕ)) (listed : List Event) (lines text : List ℕ) → names ≡ net.names → AreEnabled net.history.now (candidates net.history.now) listed → lines ≡ event_lines names listed → text ≡ or_none_text lines → (events : List Event) → AreEnabled net.history.now (candidates net.history.now) events → text ≡ or_none_text (event_lines net.names events)
+enabled_text net names listed lines text is enabled all h events others =
+    let same = one_enabled net.history.now listed events enabled others in
+    h ∙ ap or_none_text (all ∙ (λ i. event_lines (is i) (same i)))
+
+pub schedule_text : (d : Seen) (net : NetworkHistory) (names : List (List ℕ)) (events : List Event) (lines text : List ℕ) → net ≡ d.net → names ≡ net.names → events ≡ d.schedule → lines ≡ numbered_lines names 1 events → text ≡ or_none_text lines → text ≡ or_none_text (numbered_lines d.net.names 1 d.schedule)
+schedule_text d net names events lines text same is listed all h =
+    let known : names ≡ d.net.names = is ∙ ap (λ (c : NetworkHistory). c.names) same in
+    h ∙ ap or_none_text (all ∙ (λ i. numbered_lines (known i) 1 (listed i)))
+
+-- ---- replies
+
+-- what stands for a reply has its text
+pub told : (names : List (List ℕ)) (due reply : Reply) (text : List ℕ) → text ≡ reply_text names due → reply ≡ due → text ≡ reply_text names reply
+told names due reply text h is = h ∙ ap (reply_text names) (sym is)
+
+pub stuck_told : (d : Seen) (net : NetworkHistory) (n : ℕ) (s : Stuck) (text : List ℕ) → net ≡ d.net → ((why : Cause) (event : Event) → s ≡ stuck_for why event → text ≡ at_line n ++ stuck_text net.names why event) → (r : Reply) → IsReply d (R.Stuck n s) r → text ≡ reply_text d.net.names r
+stuck_told d net n s text same h r (why, event, is, due) =
+    told d.net.names (Y.went n (Some (event, why))) r text (h why event is ∙ ap (λ (c : NetworkHistory). at_line n ++ stuck_text c.names why event) same) due
+
+pub ran_told : (d : Seen) (net : NetworkHistory) (n : ℕ) (end : RunEnd) (text : List ℕ) → net ≡ d.net → ((outcome : RunOutcome) → IsEnd end outcome → text ≡ ran_text net.names n outcome) → (r : Reply) → IsReply d (R.Ran n end) r → text ≡ reply_text d.net.names r
+ran_told d net n end text same h r (outcome, is, due) =
+    told d.net.names (Y.ran n outcome) r text (h outcome is ∙ ap (λ (c : NetworkHistory). ran_text c.names n outcome) same) due
+
+pub states_told : (d : Seen) (net : NetworkHistory) (text : List ℕ) → net ≡ d.net → text ≡ dumps_text net.names net.history.now.states → (r : Reply) → IsReply d R.States r → text ≡ reply_text d.net.names r
+states_told d net text same h r due =
+    told d.net.names (Y.states d.net.history.now.states) r text (h ∙ ap (λ (c : NetworkHistory). dumps_text c.names c.history.now.states) same) due
+
+pub state_told : (d : Seen) (net : NetworkHistory) (p : ℕ) (text : List ℕ) → net ≡ d.net → ((C : State) → slice_get net.history.now.states p ≡ Some C → text ≡ dump_line net.names (name_at net.names p) C) → (r : Reply) → IsReply d (R.StateOf p) r → text ≡ reply_text d.net.names r
+state_told d net p text same h r (name, C, named, there, due) =
+    let at = subst (λ (c : NetworkHistory). slice_get c.history.now.states p ≡ Some C) (sym same) there in
+    let called : name_at d.net.names p ≡ name = ap (λ (o : Option (List ℕ)). unwrap_or o []) named in
+    told d.net.names (Y.state_of name C) r text (h C at ∙ ap (λ (c : NetworkHistory). dump_line c.names (name_at c.names p) C) same ∙ ap (λ (x : List ℕ). dump_line d.net.names x C) called) due
+
+pub enabled_told : (d : Seen) (net : NetworkHistory) (text : List ℕ) → net ≡ d.net → ((events : List Event) → AreEnabled net.history.now (candidates net.history.now) events → text ≡ or_none_text (event_lines net.names events)) → (r : Reply) → IsReply d R.Enabled r → text ≡ reply_text d.net.names r
+enabled_told d net text same h r (events, are, due) =
+    let here = subst (λ (c : NetworkHistory). AreEnabled c.history.now (candidates c.history.now) events) (sym same) are in
+    told d.net.names (Y.enabled events) r text (h events here ∙ ap (λ (c : NetworkHistory). or_none_text (event_lines c.names events)) same) due
+
+pub position_told : (d : Seen) (n m : ℕ) (text : List ℕ) → n ≡ length d.traces → m ≡ length d.schedule → text ≡ where_line n m → (r : Reply) → IsReply d R.Position r → text ≡ reply_text d.net.names r
+position_told d n m text at size h r due =
+    told d.net.names (Y.stands (length d.traces) (length d.schedule)) r text (h ∙ (λ i. where_line (at i) (size i))) due
+
+-- ---- answers
+
+-- a request leaves each event of the schedule named
+pub all_named_after : (d e : Seen) (q : Request) (answer : AnyReply) → AllNamed d → GivesReply d q e answer → AllNamed e
+all_named_after d e q answer all g =
+    subst (λ (O : Origin). All (λ x. AreNamed x (length O.names)) e.schedule) (sym g.origin) (replies_named (origin_in d) (session_of d) (session_of e) q g.reply g.replies all)
+
+-- an event that is stuck, too
+pub named_reply : (d e : Seen) (q : Request) (answer : AnyReply) → AllNamed d → GivesReply d q e answer → IsNamedReply e.net.names answer
+named_reply d e q answer all g = by_answer answer g.is_reply
+  where
+    names : IsNamedIn (length e.net.names) g.reply
+    names = subst (λ (O : Origin). IsNamedIn (length O.names) g.reply) (sym g.origin) (stuck_named (origin_in d) (session_of d) (session_of e) q g.reply g.replies all)
+
+    by_end : (n : ℕ) (end : RunEnd) → IsReply e (R.Ran n end) g.reply → IsNamedEnd e.net.names end
+    by_end n (E.Break k) is = tt
+    by_end n E.End is = tt
+    by_end n (E.Stuck s) (outcome, (why, event, told, ran), is) =
+        record { why = why; event = event; is = told; named = subst (λ (r : Reply). IsNamedIn (length e.net.names) r) (is ∙ ap (Y.ran n) ran) names }
+
+    by_answer : (a : AnyReply) → IsReply e a g.reply → IsNamedReply e.net.names a
+    by_answer (R.Stuck n s) (why, event, told, is) =
+        record { why = why; event = event; is = told; named = subst (λ (r : Reply). IsNamedIn (length e.net.names) r) is names }
+    by_answer (R.Ran n end) is = by_end n end is
+    by_answer a is = tt
+
+pub gives_answer : (d e : Seen) (q : Request) (answer : AnyReply) (text : List ℕ) → GivesReply d q e answer → ((r : Reply) → IsReply e answer r → text ≡ reply_text e.net.names r) → GivesAnswer d q e text
+gives_answer d e q answer text g h = record {
+  reply = g.reply;
+  replies = g.replies;
+  written = h g.reply g.is_reply ∙ ap (λ (O : Origin). reply_text O.names g.reply) g.origin;
+  origin = g.origin;
+}
+
+-- ---- lines
+
+pub gives_nothing : (d : Seen) (l : Line) (text : List ℕ) → nothing ≡ meaning l → text ≡ [] → GivesLine d l d text
+gives_nothing d l text is h = record { answer = subst (λ (t : List ℕ). LineAnswer (origin_in d) (session_of d) l (session_of d) t) (sym h) (A.empty (sym is)); origin = refl }
+
+pub gives_bad : (d : Seen) (l : Line) (text : List ℕ) → bad ≡ meaning l → text ≡ refusal_line F.BadLine → GivesLine d l d text
+gives_bad d l text is h = record { answer = subst (λ (t : List ℕ). LineAnswer (origin_in d) (session_of d) l (session_of d) t) (sym h) (A.refused (sym is)); origin = refl }
+
+pub gives_asks : {X : Type 0} (bytes : X → List ℕ) (d e : Seen) (l : Line) (q : Request) (answer : Option X) → asks q ≡ meaning l → MatchOption answer (q ≡ Q.quit) (λ text. GivesAnswer d q e (bytes text)) → MatchOption answer (meaning l ≡ asks Q.quit) (λ text. GivesLine d l e (bytes text))
+gives_asks bytes d e l q None is h = sym is ∙ ap asks h
+gives_asks bytes d e l q (Some text) is h = record {
+  answer = subst (λ (t : List ℕ). LineAnswer (origin_in d) (session_of d) l (session_of e) t) (sym h.written) (A.replies q (sym is) h.replies);
+  origin = h.origin;
+}

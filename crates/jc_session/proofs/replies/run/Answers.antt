@@ -1,0 +1,12 @@
+use Rattle.jc_session.proofs.AnswerOfLemmas.{reply_run, run_past}
+use Rattle.jc_session.proofs.replies.run.Goals as goal
+
+pub returns-in-Ok : goal.returns-in-Ok
+returns-in-Ok c =
+    let w = c.in-Ok in
+    reply_run c.args.debugger.now c.run.new.self w.end c.position-at.result w.ensures.end w.ensures.ok c.position-at.ensures.position
+
+pub returns-in-Err-AtEnd : goal.returns-in-Err-AtEnd
+returns-in-Err-AtEnd c =
+    let w = c.in-Err-AtEnd in
+    run_past c.args.debugger.now c.run.new.self w.field-0 w.field-0-is w.ensures.end w.ensures.err
