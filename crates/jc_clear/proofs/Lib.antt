@@ -2,6 +2,7 @@ pub mod UnionLemmas
 pub mod BareLemmas
 pub mod ClearsBelowLemmas
 pub mod ClearRulesLemmas
+pub mod ClearedLemmas
 pub mod ClearsLemmas
 pub mod ClearsStandsLemmas
 pub mod ClearListLemmas

@@ -18,6 +18,7 @@ ghost use Rattle.jc_rules.specs.Entries.{keys_of};
 ghost use Rattle.jc_clear.specs.Clears.{Clears};
 ghost use Rattle.jc_clear.specs.ContentKeys.{has_content, AreContentKeys};
 
+use crate::cleared::{is_cleared, push_cleared};
 use crate::registers::{clear_register, presence_of, put_presence};
 use crate::sets::{left_out, united};
 use jc_rules::{Id, IdSet, Key, Next, Rule, Tagged, Trace};
@@ -27,7 +28,8 @@ use std::alloc::{AllocError, Global};
 /// For a key of which no hint is known.
 const ANYWHERE: Hint = Hint { number: 0 };
 
-/// Clears a key under each tag, and takes the dependencies out of its presence set.
+/// Clears a key under each tag, and takes the dependencies out of its presence set. A key that was cleared before, and
+/// has got nothing since, is written down and no more.
 #[cycle(clearing)]
 fn elem_in<S: TreeStore>(
     alloc: Global,
@@ -48,6 +50,10 @@ fn elem_in<S: TreeStore>(
     ensures names_stay { NamesStay (S.names store.old) (S.names store.new) }
     ensures kept { TreeCanGoBack (S.tree store.old) (S.tree store.new) trace.old trace.new }
 {
+    if is_cleared(store, place, at.as_slice(), key, hint) {
+        push_cleared(trace)?;
+        return Ok(Vec::new(alloc));
+    }
     let depth = trace.depth();
     trace.open(Rule::ClearElem)?;
     let below = any_in(alloc, store, deps, place, at, key, hint, trace)?;
@@ -131,9 +137,9 @@ fn has_content<S: TreeStore>(store: &S, place: Place, at: &[Tagged], key: &Key, 
     requires named { S.names store.now place at.now }
     ensures { result ≡ has_content (here at.now (S.tree store.now)) key.now }
 {
-    store.map_by(place, at, key, hint).is_some()
+    store.register_by(place, at, key, hint).is_some()
+        || store.map_by(place, at, key, hint).is_some()
         || store.list_by(place, at, key, hint).is_some()
-        || store.register_by(place, at, key, hint).is_some()
 }
 
 /// The keys of the context at the place that have a map, a list or a register, rising, each with a hint.

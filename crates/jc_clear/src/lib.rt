@@ -1,6 +1,7 @@
 //! The rules of clearing, over any store of a document's tree.
 #![tactic(auto)]
 
+mod cleared;
 mod clearing;
 mod registers;
 mod sets;

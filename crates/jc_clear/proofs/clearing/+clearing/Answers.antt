@@ -1,6 +1,7 @@
-use Rattle.std.proofs.Common.{rules, ◌≡◌, None, ℕ, ◌+◌, [], ◌∷◌, ◌++◌, drop, ap, sym, ◌∙◌, refl, arith}
+use Rattle.std.proofs.Common.{rules, ◌≡◌, None, ℕ, ◌+◌, List, [], ◌∷◌, ◌++◌, drop, ap, sym, ◌∙◌, refl, subst, arith}
 use Rattle.std.proofs.lemmas.List.{drop_more, drop_all}
 use Rattle.jc_rules.specs.declared.key.Key.{Key}
+use Rattle.jc_rules.specs.declared.key.Tagged.{Tagged}
 use Rattle.jc_rules.specs.declared.key.Tagged.TheVariants.{MapT, ListT}
 use Rattle.jc_rules.specs.declared.rule.Rule.TheVariants as R
 use Rattle.jc_rules.specs.Ids.{union, without}
@@ -8,6 +9,7 @@ use Rattle.jc_rules.specs.Entries.{keys_of}
 use Rattle.jc_rules.specs.Table.{after}
 use Rattle.jc_rules.specs.Trace.{Rows, at_depth}
 use Rattle.jc_tree.specs.Tree.{here}
+use Rattle.jc_clear.specs.Cleared.{IsCleared}
 use Rattle.jc_clear.specs.ContentKeys.{AreContentKeys}
 use Rattle.jc_tree.proofs.ChainedBelowLemmas.{below-list}
 use Rattle.jc_tree.proofs.CanGoBackLemmas.{nothing, then, rule_opened, rule_added, rows_added, only_tree, depth_changed}
@@ -75,24 +77,36 @@ clear_list-returns-clause-ok g t c =
     let e = rw c.as_slice.ensures.value at c.in-Some.ensures.some in
     list_cleared _ _ _ _ _ _ _ _ _ _ _ c.requires.there (sym e) (c.in_ok-push-2.ensures.items ∙ ap (λ (k : Key). c.args.at.now.items ++ ListT k ∷ []) c.in_ok-copy.ensures) c.in_ok-open.ensures.ok c.in_ok-ids.ensures.ok (c.close.ensures ∙ ap (λ (n : ℕ). at_depth n c.list_in.new.trace) c.depth-depth.ensures)
 
+pub elem_in-returns-then-is_cleared-clause-ok : goal.elem_in-returns-then-is_cleared-clause-ok
+elem_in-returns-then-is_cleared-clause-ok g t c =
+    let tree = g.S.TreeStore.tree c.args.store.now in
+    let is : IsCleared c.args.key.now (here c.args.at.now.items tree) = subst (λ (p : List Tagged). IsCleared c.args.key.now (here p tree)) c.as_slice.ensures.value (c.is_cleared.ensures c.if-is_cleared.true) in
+    rw c.new.ensures.items (c.in_ok-push_cleared.ensures.ok c.args.at.now.items tree c.args.deps.now c.args.key.now c.requires.there is)
+
+pub elem_in-returns-then-is_cleared-clause-kept : goal.elem_in-returns-then-is_cleared-clause-kept
+elem_in-returns-then-is_cleared-clause-kept g t c = c.in_ok-push_cleared.ensures.kept (g.S.TreeStore.tree c.args.store.now)
+
+pub elem_in-returns-in_err-push_cleared-clause-kept : goal.elem_in-returns-in_err-push_cleared-clause-kept
+elem_in-returns-in_err-push_cleared-clause-kept g t c = c.in_err-push_cleared.ensures.kept (g.S.TreeStore.tree c.args.store.now)
+
 pub elem_in-presence_of-requires-clause-there : goal.elem_in-presence_of-requires-clause-there
 elem_in-presence_of-requires-clause-there g t c =
-    (after_call _ _ _ _ _ _ _ _ c.requires.there (c.as_slice.ensures.value ∙ c.in_ok-below.ensures.path) c.in_ok-below.ensures.ok).there
+    (after_call _ _ _ _ _ _ _ _ c.requires.there (c.as_slice-2.ensures.value ∙ c.in_ok-below.ensures.path) c.in_ok-below.ensures.ok).there
 
 pub elem_in-united-requires : goal.elem_in-united-requires
 elem_in-united-requires g t c = c.in_ok-below.ensures.ok.rises
 
 pub elem_in-put_presence-requires-clause-there : goal.elem_in-put_presence-requires-clause-there
 elem_in-put_presence-requires-clause-there g t c =
-    (after_call _ _ _ _ _ _ _ _ c.requires.there (c.as_slice-4.ensures.value ∙ c.in_ok-below.ensures.path) c.in_ok-below.ensures.ok).there
+    (after_call _ _ _ _ _ _ _ _ c.requires.there (c.as_slice-5.ensures.value ∙ c.in_ok-below.ensures.path) c.in_ok-below.ensures.ok).there
 
 pub elem_in-put_presence-requires-clause-rising : goal.elem_in-put_presence-requires-clause-rising
 elem_in-put_presence-requires-clause-rising g t c =
-    rises_left c.args.deps.now c.in_ok-below.below.items c.as_slice-3.result.now c.as_slice-2.result.now _ _ c.in_ok-all.ensures c.as_slice-3.ensures.value (c.as_slice-5.ensures.value ∙ c.in_ok-ids.ensures)
+    rises_left c.args.deps.now c.in_ok-below.below.items c.as_slice-4.result.now c.as_slice-3.result.now _ _ c.in_ok-all.ensures c.as_slice-4.ensures.value (c.as_slice-6.ensures.value ∙ c.in_ok-ids.ensures)
 
 pub elem_in-returns-clause-ok : goal.elem_in-returns-clause-ok
 elem_in-returns-clause-ok g t c =
-    clear_elem _ _ _ _ _ _ _ _ _ _ _ _ _ _ _ _ _ c.requires.there c.in_ok-open.ensures.ok c.in_ok-below.ensures.ok (c.as_slice.ensures.value ∙ c.in_ok-below.ensures.path) c.in_ok-present.ensures.ok (c.in_ok-ids.ensures ∙ ap (λ x. without x c.args.deps.now) (c.as_slice-3.ensures.value ∙ c.in_ok-all.ensures ∙ ap (union c.in_ok-below.below.items) c.as_slice-2.ensures.value)) (c.as_slice-4.ensures.value ∙ c.in_ok-below.ensures.path) c.as_slice-5.ensures.value c.in_ok-put_presence.ensures.ok (c.close.ensures ∙ ap (λ (n : ℕ). at_depth n c.presence_of.new.trace) c.depth-depth.ensures)
+    clear_elem _ _ _ _ _ _ _ _ _ _ _ _ _ _ _ _ _ c.requires.there c.in_ok-open.ensures.ok c.in_ok-below.ensures.ok (c.as_slice-2.ensures.value ∙ c.in_ok-below.ensures.path) c.in_ok-present.ensures.ok (c.in_ok-ids.ensures ∙ ap (λ x. without x c.args.deps.now) (c.as_slice-4.ensures.value ∙ c.in_ok-all.ensures ∙ ap (union c.in_ok-below.below.items) c.as_slice-3.ensures.value)) (c.as_slice-5.ensures.value ∙ c.in_ok-below.ensures.path) c.as_slice-6.ensures.value c.in_ok-put_presence.ensures.ok (c.close.ensures ∙ ap (λ (n : ℕ). at_depth n c.presence_of.new.trace) c.depth-depth.ensures)
 
 pub elem_in-returns-clause-kept : goal.elem_in-returns-clause-kept
 elem_in-returns-clause-kept g t c =
