@@ -16,10 +16,11 @@ use Rattle.jc_rules.specs.WellFormed.{IsChainedList}
 use Rattle.jc_rules.specs.Trace.{Rows, pushed, one_deeper, at_depth}
 use Rattle.jc_tree.specs.Tree.{Tree, HasPlace, here}
 use Rattle.jc_clear.specs.Clears.{Clears}
+use Rattle.jc_clear.specs.Turns.{Turn}
 use Rattle.jc_tree.proofs.ChainedLeadsLemmas.{steps, Leads, leads_whole, leads_on, leads_next}
 use Rattle.jc_clear.proofs.BareLemmas.{links-same}
 use Rattle.jc_clear.proofs.ClearRulesLemmas.{After}
-use Rattle.jc_clear.proofs.ClearsLemmas.{Turn, first_turn, next_turn, last_turn, after_turns}
+use Rattle.jc_clear.proofs.ClearsLemmas.{first_turn, next_turn, last_turn, after_turns}
 
 -- what the loop along a list keeps
 pub record Along (deps : List Id) (at : List Tagged) (a : Tree) (t : Rows) (b : Tree) (key : Option Key) (ids : List Id) (u : Rows) : Type 0 where

@@ -1,5 +1,5 @@
 -- About Clears: clearing the keys of a map, the least first.
-use Rattle.std.proofs.Common.{◌≡◌, ◌≢◌, List, [], ◌∷◌, filter, Option, Some, None, Bool, true, false, not, refl, sym, ◌∙◌, ap, subst}
+use Rattle.std.proofs.Common.{◌≡◌, ◌≢◌, List, [], ◌∷◌, ◌++◌, filter, Option, Some, None, Bool, true, false, not, refl, sym, ◌∙◌, ap, subst}
 use Rattle.std.specs.List.{AllByRecursion}
 use Rattle.std.specs.declared.cmp.Ordering.{Ordering}
 use Rattle.std.specs.declared.cmp.Ordering.TheVariants.{Less, Equal, Greater}
@@ -8,6 +8,7 @@ use Rattle.jc_rules.specs.declared.key.Key.{Key}
 use Rattle.jc_rules.specs.declared.key.Tagged.{Tagged}
 use Rattle.jc_rules.specs.declared.rule.Rule.TheVariants as R
 use Rattle.jc_rules.specs.Order.{key_cmp}
+use Rattle.jc_rules.specs.Entries.{keys_of}
 use Rattle.jc_rules.specs.Ids.{union}
 use Rattle.jc_rules.specs.Table.{is_done, least, least_left}
 use Rattle.jc_rules.specs.Context.{Context, keys}
@@ -16,19 +17,17 @@ use Rattle.jc_rules.specs.Trace.{Rows, pushed, one_deeper, at_depth}
 use Rattle.jc_tree.specs.Tree.{Tree, HasPlace, here, is_after, least_after}
 use Rattle.jc_tree.proofs.WalksLemmas.{IsNext, next_is, after_over}
 use Rattle.jc_clear.specs.Clears.{Clears}
-use Rattle.jc_clear.specs.ContentKeys.{AreContentKeys}
+use Rattle.jc_clear.specs.Cleared.{IsCleared}
+use Rattle.jc_clear.specs.ContentKeys.{has_content}
+use Rattle.jc_clear.specs.Turns.{AreDone, Through, AreLeft, ThroughKeys}
 use Rattle.jc_clear.proofs.BareLemmas.{keys-same}
 use Rattle.jc_clear.proofs.ClearRulesLemmas.{After}
-use Rattle.jc_clear.proofs.ContentKeysLemmas.{AreLeft, all_left, next_left, first_is_least, none_left}
-use Rattle.jc_clear.proofs.ClearsLemmas.{Turn, first_turn, next_turn, last_turn, after_turns}
+use Rattle.jc_clear.proofs.ContentKeysLemmas.{AreContentKeys, all_left, next_left, first_is_least, none_left}
+use Rattle.jc_clear.proofs.ClearsLemmas.{first_turn, next_turn, last_turn, after_turns}
 
 filter-same : (p q : Key → Bool) (ks : List Key) → AllByRecursion (λ k. p k ≡ q k) ks → filter p ks ≡ filter q ks
 filter-same p q [] h = refl
 filter-same p q (k ∷ ks) h = rw (h.0, filter-same p q ks h.1) refl
-
--- what is done are the keys up to one
-abbrev AreDone : Option Key → List Key → List Key → Type 0
-AreDone last done ks = AllByRecursion (λ k. is_done done k ≡ not (is_after last k)) ks
 
 none_done : (ks : List Key) → AreDone None [] ks
 none_done [] = tt
@@ -64,12 +63,6 @@ all_not last done (k ∷ ks) h = (not_not _ _ h.0, all_not last done ks h.1)
 left-after : (last : Option Key) (done : List Key) (c : Context) → AreDone last done (keys c) → least_left done c ≡ least_after last (keys c)
 left-after last done c h = ap least (filter-same (λ k. not (is_done done k)) (λ k. is_after last k) (keys c) (all_not last done (keys c) h))
 
--- a map's keys up to the last are cleared
-pub record Through (deps : List Id) (at : List Tagged) (a : Tree) (t : Rows) (b : Tree) (last : Option Key) (ids : List Id) (u : Rows) : Type 0 where
-  pub done : List Key
-  pub are_done : AreDone last done (keys (here at a))
-  pub turn : Turn (λ c. ClearMap c deps []) (λ c. ClearMap c deps done) at a t b ids u
-
 first_through : (deps : List Id) (at : List Tagged) (a : Tree) (t : Rows) (last : Option Key) (ids : List Id) → HasPlace at a → last ≡ None → ids ≡ [] → Through deps at a t a last ids t
 first_through deps at a t last ids p e i = rw e (record { done = []; are_done = none_done (keys (here at a)); turn = first_turn _ at a t ids p i })
 
@@ -101,12 +94,6 @@ last_through : (deps : List Id) (at p : List Tagged) (a : Tree) (t : Rows) (b : 
 last_through deps at p a t b last ids u v h pe w n e =
     last_turn _ (λ c. ClearMap c deps w.done) R.ClearMap3 at a t b ids u v h w.turn e (left_now deps at p a t b last ids u w h pe ∙ n, refl, refl)
 
--- what the loop over a map's keys keeps: these are left
-pub record ThroughKeys (deps : List Id) (at : List Tagged) (a : Tree) (t : Rows) (b : Tree) (ks : List Key) (ids : List Id) (u : Rows) : Type 0 where
-  pub last : Option Key
-  pub left : AreLeft last ks (here at a)
-  pub through : Through deps at a t b last ids u
-
 pub first_keys : (deps : List Id) (at : List Tagged) (a : Tree) (t : Rows) (ks : List Key) (ids : List Id) → HasPlace at a → AreContentKeys ks (here at a) → ids ≡ [] → ThroughKeys deps at a t a ks ids t
 first_keys deps at a t ks ids p c i = record { last = None; left = all_left ks (here at a) c; through = first_through deps at a t None ids p refl i }
 
@@ -127,3 +114,27 @@ pub last_keys : (deps : List Id) (at : List Tagged) (a : Tree) (t : Rows) (b : T
 last_keys deps at a t b ks ids u v h f w e =
     let l : AreLeft w.last [] (here at a) = subst (λ (js : List Key). AreLeft w.last js (here at a)) f w.left in
     last_through deps at at a t b w.last ids u v h refl w.through (ap (least_after w.last) (keys_were deps at at a t b w.last ids u h refl w.through) ∙ none_left w.last (here at a) l) e
+
+-- the first keys that are left, where the keys with a content are listed
+
+has_cleared : (c : Context) (k : Key) → IsCleared k c → has_content c k ≡ true
+has_cleared c k i = rw (i.map, i.list, i.register) refl
+
+-- one was cleared before
+pub cleared_on : (deps : List Id) (at : List Tagged) (a : Tree) (t : Rows) (k : Key) (ks left : List Key) (u o v : Rows) → HasPlace at a → IsCleared k (here at a) → left ≡ filter (λ j. has_content (here at a) j) (k ∷ ks) → ThroughKeys deps at a t a left [] u → Clears (λ c. ClearElem c deps k) at a a [] o v → o ≡ one_deeper (pushed u R.ClearMap2) → ThroughKeys deps at a t a (filter (λ j. has_content (here at a) j) ks) [] v
+cleared_on deps at a t k ks left u o v h i f w z oe =
+    let has : has_content (here at a) k ≡ true = has_cleared (here at a) k i in
+    keys_on deps at at a t a a k (filter (λ j. has_content (here at a) j) ks) left [] [] [] u o v h refl (f ∙ rw has refl) w z oe refl
+
+module _ {X : Type 0} (p : Key → Bool) where
+  -- one goes over into a list
+  pub listed_on : (es fs : List (Key × X)) (e : Key × X) (k : Key) (ks : List Key) → fs ≡ es ++ e ∷ [] → e.0 ≡ k → p k ≡ true → keys_of es ++ filter p (k ∷ ks) ≡ keys_of fs ++ filter p ks
+  listed_on es fs e k ks f s h = go es ∙ ap (λ (x : List (Key × X)). keys_of x ++ filter p ks) (sym f)
+    where
+      go : (ds : List (Key × X)) → keys_of ds ++ filter p (k ∷ ks) ≡ keys_of (ds ++ e ∷ []) ++ filter p ks
+      go [] = rw (h, s) refl
+      go (d ∷ ds) = ap (λ (x : List Key). d.0 ∷ x) (go ds)
+
+  -- one is left out
+  pub left_over : (es : List (Key × X)) (k : Key) (ks : List Key) → p k ≡ false → keys_of es ++ filter p (k ∷ ks) ≡ keys_of es ++ filter p ks
+  left_over es k ks h = rw h refl

@@ -1,12 +1,11 @@
 -- About Clears: clearing one key after another; an answer for the rest is one for the whole.
-use Rattle.std.proofs.Common.{◌≡◌, ◌≤◌, List, [], ◌∷◌, refl, sym, ◌∙◌, ap, subst, arith}
+use Rattle.std.proofs.Common.{◌≡◌, List, [], ◌∷◌, refl, sym, ◌∙◌, ap, subst, arith}
 use Rattle.jc_rules.specs.declared.id.Id.{Id}
 use Rattle.jc_rules.specs.declared.key.Key.{Key}
 use Rattle.jc_rules.specs.declared.key.Tagged.{Tagged}
 use Rattle.jc_rules.specs.declared.rule.Rule.{Rule}
-use Rattle.jc_rules.specs.Ids.{AreRising, union}
+use Rattle.jc_rules.specs.Ids.{union}
 use Rattle.jc_rules.specs.Context.{Context}
-use Rattle.jc_rules.specs.ContextsAt.{with_node_at}
 use Rattle.jc_rules.specs.Derivation.{Question, gives, ClearElem, Cleared}
 use Rattle.jc_rules.specs.Derives.{Derives}
 use Rattle.jc_rules.specs.Trace.{Rows, pushed, one_deeper, at_depth}
@@ -17,18 +16,10 @@ use Rattle.jc_rules.proofs.DerivesLemmas.{by_axiom, two_premises}
 use Rattle.jc_tree.specs.Tree.{Tree, HasPlace, here}
 use Rattle.jc_clear.specs.Bare.{bare}
 use Rattle.jc_clear.specs.Clears.{Clears}
+use Rattle.jc_clear.specs.Turns.{Turn}
 use Rattle.jc_tree.proofs.PlacesLemmas.{then_here, then_now}
 use Rattle.jc_clear.proofs.ClearRulesLemmas.{After, after_change}
 use Rattle.jc_clear.proofs.UnionLemmas.{union-union}
-
--- The question of the whole in the first tree, and the one that is left in the tree as it is: an answer to what is left extends to one to the whole, with the identifiers and the rules so far before it.
-pub record Turn (whole left : Context → Question) (at : List Tagged) (a : Tree) (t : Rows) (b : Tree) (ids : List Id) (u : Rows) : Type 0 where
-  pub so_far : Context
-  pub now : b.now ≡ with_node_at at so_far a.now
-  pub same : bare so_far ≡ bare (here at a)
-  pub rises : AreRising ids
-  pub deeper : t.depth ≤ u.depth
-  pub rest : (d : Context) (s : List Id) (v : Rows) → AreRising s → Derives (left so_far) (Cleared d s) u v → Derives (whole (here at a)) (Cleared d (union ids s)) t (at_depth t.depth v)
 
 pub first_turn : (whole : Context → Question) (at : List Tagged) (a : Tree) (t : Rows) (ids : List Id) → HasPlace at a → ids ≡ [] → Turn whole whole at a t a ids t
 first_turn whole at a t ids p i =

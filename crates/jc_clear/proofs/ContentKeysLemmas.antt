@@ -1,5 +1,5 @@
 -- About ContentKeys: the keys of a context in a list, and which are left of them.
-use Rattle.std.proofs.Common.{◌≡◌, ◌≢◌, ◌⊎◌, inl, inr, ℕ, zero, suc, ◌+◌, ◌<◌, List, [], ◌∷◌, ◌++◌, length, filter, slice_index_or, Contains, Option, Some, None, Bool, true, false, is_some, ◌||◌, refl, sym, ◌∙◌, ap, subst, arith}
+use Rattle.std.proofs.Common.{◌≡◌, ◌≢◌, ◌⊎◌, inl, inr, ℕ, zero, suc, ◌<◌, List, [], ◌∷◌, ◌++◌, length, filter, slice_index_or, Contains, Option, Some, None, Bool, true, false, is_some, ◌||◌, refl, sym, ◌∙◌, ap, subst, arith}
 use Rattle.std.specs.List.{AllByRecursion}
 use Rattle.std.specs.Ordering.{is_lt, eq_by_cmp}
 use Rattle.std.specs.declared.cmp.Ordering.{Ordering}
@@ -16,14 +16,17 @@ use Rattle.jc_rules.proofs.OrderLemmas.{keys_total, exact_keys}
 use Rattle.jc_rules.proofs.RisingLemmas.{less_greater}
 use Rattle.jc_rules.proofs.EntriesLemmas.{same-self, same-eq}
 use Rattle.jc_tree.specs.Tree.{is_after, least_after, all_keys}
-use Rattle.jc_clear.specs.ContentKeys.{has_content, AreContentKeys}
+use Rattle.jc_clear.specs.ContentKeys.{has_content}
+use Rattle.jc_clear.specs.Turns.{IsOneOf, AreLeft}
 use Rattle.jc_tree.proofs.WalksLemmas.{IsNext, next_is, none_is, after_over}
 
--- ---- one of a list
+-- rising, these keys and no others
+pub record AreContentKeys (ks : List Key) (c : Context) : Type 0 where
+  pub rise : IsRising key_cmp ks
+  pub only : AllByRecursion (λ k. has_content c k ≡ true) ks
+  pub all : AllByRecursion (Contains ks) (keys c)
 
-abbrev IsOneOf : List Key → Key → Type 0
-IsOneOf [] k = ⊥
-IsOneOf (j ∷ js) k = (j ≡ k) ⊎ IsOneOf js k
+-- ---- one of a list
 
 front : (js ks : List Key) (k : Key) → IsOneOf js k → IsOneOf (js ++ ks) k
 front [] ks k h = absurd h
@@ -195,13 +198,6 @@ least_one (k ∷ ks) m e = go (least ks) refl (λ i f. least_one ks i f)
     go (Some i) f ih = pick i (key_cmp k i) refl f (ih i f)
 
 -- ---- the keys that are left
-
--- of the context's keys, these are left after the last one, the least first
-pub record AreLeft (last : Option Key) (ks : List Key) (c : Context) : Type 0 where
-  pub rise : IsRising key_cmp ks
-  pub after : AllByRecursion (λ k. is_after last k ≡ true) ks
-  pub among : AllByRecursion (λ k. has_content c k ≡ true) ks
-  pub all : (j : Key) → IsOneOf (keys c) j → is_after last j ≡ true → IsOneOf ks j
 
 all_after_none : (ks : List Key) → AllByRecursion (λ k. is_after None k ≡ true) ks
 all_after_none [] = tt

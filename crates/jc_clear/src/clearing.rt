@@ -16,7 +16,8 @@ ghost use Rattle.jc_tree.specs.ChainedBelow.{AreChainedBelow};
 ghost use Rattle.jc_tree.specs.Tree.{HasPlace, NamesStay, here};
 ghost use Rattle.jc_rules.specs.Entries.{keys_of};
 ghost use Rattle.jc_clear.specs.Clears.{Clears};
-ghost use Rattle.jc_clear.specs.ContentKeys.{has_content, AreContentKeys};
+ghost use Rattle.jc_clear.specs.ContentKeys.{has_content};
+ghost use Rattle.jc_clear.specs.Turns.{ThroughKeys};
 
 use crate::cleared::{is_cleared, push_cleared};
 use crate::registers::{clear_register, presence_of, put_presence};
@@ -142,21 +143,28 @@ fn has_content<S: TreeStore>(store: &S, place: Place, at: &[Tagged], key: &Key, 
         || store.list_by(place, at, key, hint).is_some()
 }
 
-/// The keys of the context at the place that have a map, a list or a register, rising, each with a hint.
-fn content_keys<S: TreeStore>(
+/// Clears the first keys of the map at the place as long as they were cleared before, and returns those behind them that
+/// have a map, a list or a register, rising, each with a hint.
+fn clear_first<S: TreeStore>(
     alloc: Global,
     store: &S,
     place: Place,
     at: &[Tagged],
+    trace: &mut Trace,
 ) -> Result<Vec<(Key, Hint)>, AllocError>
     requires there { HasPlace at.now (S.tree store.now) }
     requires named { S.names store.now place at.now }
-    ensures { IfOk result (λ keys. AreContentKeys (keys_of keys.items) (here at.now (S.tree store.now))) }
+    ensures through { IfOk result (λ keys. (deps : List AnyId)
+        → ThroughKeys deps at.now (S.tree store.now) trace.old (S.tree store.now) (keys_of keys.items) [] trace.new) }
+    ensures kept { TreeCanGoBack (S.tree store.now) (S.tree store.now) trace.old trace.new }
 {
     let keys = store.keys_at(alloc, place, at)?;
     let mut left = Vec::new(alloc);
     for lent in keys.as_slice() {
-        if has_content(store, place, at, lent.0, lent.1) {
+        if left.is_empty() && is_cleared(store, place, at, lent.0, lent.1) {
+            trace.open(Rule::ClearMap2)?;
+            push_cleared(trace)?;
+        } else if has_content(store, place, at, lent.0, lent.1) {
             left.push((lent.0.copy()?, lent.1))?;
         }
     }
@@ -183,7 +191,7 @@ fn map_in<S: TreeStore>(
     ensures kept { TreeCanGoBack (S.tree store.old) (S.tree store.new) trace.old trace.new }
 {
     let depth = trace.depth();
-    let keys = content_keys(alloc, store, place, at.as_slice())?;
+    let keys = clear_first(alloc, store, place, at.as_slice(), trace)?;
     let mut ids = Vec::new(alloc);
     for (key, hint) in keys.as_slice() {
         trace.open(Rule::ClearMap2)?;

@@ -10,11 +10,11 @@ use Rattle.jc_rules.specs.Table.{after}
 use Rattle.jc_rules.specs.Trace.{Rows, at_depth}
 use Rattle.jc_tree.specs.Tree.{here}
 use Rattle.jc_clear.specs.Cleared.{IsCleared}
-use Rattle.jc_clear.specs.ContentKeys.{AreContentKeys}
+use Rattle.jc_clear.specs.Turns.{ThroughKeys}
 use Rattle.jc_tree.proofs.ChainedBelowLemmas.{below-list}
 use Rattle.jc_tree.proofs.CanGoBackLemmas.{nothing, then, rule_opened, rule_added, rows_added, only_tree, depth_changed}
 use Rattle.jc_clear.proofs.ClearListLemmas.{first_along, after_along, along_finds, along_on, last_along}
-use Rattle.jc_clear.proofs.ClearMapLemmas.{first_keys, after_keys, keys_on, last_keys}
+use Rattle.jc_clear.proofs.ClearMapLemmas.{after_keys, keys_on, last_keys}
 use Rattle.jc_clear.proofs.ClearRulesLemmas.{after_call, clear_none, clear_elem, rises_left, clear_any, down_map, down_list, map_cleared, list_cleared}
 use Rattle.jc_clear.proofs.clearing.+clearing.Goals.{list_in-in-Tail, list_in-in-Elem}
 use Rattle.jc_clear.proofs.clearing.+clearing.Goals as goal
@@ -155,8 +155,9 @@ list_in-returns-clause-ok g t c =
 
 pub map_in-loop-key-init : goal.map_in-loop-key-init
 map_in-loop-key-init g t c =
-    let keys : AreContentKeys (keys_of c.as_slice-key-items.result.now) (here c.args.at.now.items (g.S.TreeStore.tree c.args.store.now)) = rw (c.as_slice-key-items.ensures.value, ← c.as_slice.ensures.value) c.in_ok-keys.ensures in
-    record { through = first_keys _ _ _ _ _ _ c.requires.there keys c.new-ids.ensures.items; path = refl; names_stay = λ p q h. h; kept = nothing _ _ _ _ refl refl }
+    let tree = g.S.TreeStore.tree c.args.store.now in
+    let through : ThroughKeys c.args.deps.now c.args.at.now.items tree c.args.trace.now tree (keys_of c.as_slice-key-items.result.now) c.new-ids.result.items c.clear_first.new.trace = rw (c.as_slice-key-items.ensures.value, c.new-ids.ensures.items, ← c.as_slice.ensures.value) (c.in_ok-keys.ensures.through c.args.deps.now) in
+    record { through = through; path = refl; names_stay = λ p q h. h; kept = c.in_ok-keys.ensures.kept }
 
 pub map_in-elem_in-requires : goal.map_in-elem_in-requires
 map_in-elem_in-requires g t c =

@@ -6,7 +6,7 @@ use Rattle.jc_tree.specs.Nested.{nested}
 use Rattle.jc_tree.specs.CanGoBack.{TreeCanGoBack}
 use Rattle.jc_tree.proofs.ChainedLeadsLemmas.{steps}
 use Rattle.jc_clear.proofs.ClearListLemmas.{Along}
-use Rattle.jc_clear.proofs.ClearMapLemmas.{ThroughKeys}
+use Rattle.jc_clear.specs.Turns.{ThroughKeys}
 use Rattle.jc_clear.proofs.clearing.+clearing.Given as goal
 
 abbrev pub decreases-elem_in : goal.decreases-elem_in
@@ -29,10 +29,10 @@ decreases-list_in g l = 4 * nested (here l.at.now.items (g.S.TreeStore.tree l.st
 
 abbrev pub invariant-map_in-loop-key : goal.invariant-map_in-loop-key
 invariant-map_in-loop-key g l = record {
-  through : ThroughKeys l.deps l.initial.at.items (g.S.TreeStore.tree l.initial.store) l.initial.trace (g.S.TreeStore.tree l.store) (keys_of (drop l.key-index l.key-items)) l.ids.items l.trace;
-  path : l.at.items ≡ l.initial.at.items;
-  names_stay : NamesStay (g.S.TreeStore.names l.initial.store) (g.S.TreeStore.names l.store);
-  kept : TreeCanGoBack (g.S.TreeStore.tree l.initial.store) (g.S.TreeStore.tree l.store) l.initial.trace l.trace;
+  through : ThroughKeys l.deps l.fn.at.items (g.S.TreeStore.tree l.fn.store) l.fn.trace (g.S.TreeStore.tree l.store) (keys_of (drop l.key-index l.key-items)) l.ids.items l.trace;
+  path : l.at.items ≡ l.fn.at.items;
+  names_stay : NamesStay (g.S.TreeStore.names l.fn.store) (g.S.TreeStore.names l.store);
+  kept : TreeCanGoBack (g.S.TreeStore.tree l.fn.store) (g.S.TreeStore.tree l.store) l.fn.trace l.trace;
 }
 
 abbrev pub invariant-list_in-loop-key : goal.invariant-list_in-loop-key
