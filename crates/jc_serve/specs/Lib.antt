@@ -1,0 +1,5 @@
+pub mod Asked
+pub mod Input
+pub mod JsonTexts
+pub mod Refusals
+pub mod ReplyTexts
