@@ -4,11 +4,9 @@ pub mod JournalResultLemmas
 pub mod ReadsScenarioLemmas
 pub mod ViewOutputLemmas
 pub mod CommandCountLemmas
-pub mod DumpsLemmas
+pub mod LinesLemmas
 pub mod ViewTextLemmas
 pub mod GivenStuckLemmas
-pub mod DocumentsLemmas
-pub mod ViewsLemmas
 pub mod JournaledLemmas
 pub mod LawsLemmas
 pub mod SomeRunLemmas
