@@ -15,7 +15,6 @@ from jsoncrdt.oracle.lines import RULES
 # Where bytes come from and go to: the sources and sinks of jc_io, and what std has for them.
 OUTSIDE = re.compile(r"\bjc_io\b|\b(?:Sink|Source|ToWrite|FromRead)\b|\bstd::(?:io|fs|net|os|process|env)\b"
                      r"|\be?print(?:ln)?!")
-HANDED_ON = re.compile(r"^pub use jc_io::\{[^}]*\};$", re.MULTILINE)
 WRITING = ("jc_io", "jc_out", "jc_session", "jc_program", "jc_app")
 # The streams and files of the machine.
 MACHINE = re.compile(r"\bstd::fs\b|\b(?:Stdin|Stdout|Stderr|File)\b|\b(?:stdin|stdout|stderr)\(")
@@ -105,17 +104,16 @@ def tests_apart(texts):
 
 
 def writes_nothing(texts):
-    """No library but the five has to do with what bytes come from or go to; jc_rules hands it on. Of the five, jc_app
-    alone knows the streams and files of the machine."""
+    """No library but the five has to do with what bytes come from or go to. Of the five, jc_app alone knows the streams
+    and files of the machine."""
     crates = crates_in(texts)
     names = [name for name in libraries(texts) if name not in WRITING]
     for name in names:
-        if name != "jc_rules" and "jc_io" in crates[name].uses:
+        if "jc_io" in crates[name].uses:
             yield f"{name} uses jc_io"
     for name, path, text in files_of(texts, names, "src"):
-        found = OUTSIDE.findall(HANDED_ON.sub("", text, 1) if path == "crates/jc_rules/src/lib.rt" else text)
-        if found:
-            yield f"{path} names {found}"
+        if OUTSIDE.search(text):
+            yield f"{path} names {OUTSIDE.findall(text)}"
     for name, path, text in files_of(texts, libraries(texts), "src"):
         if name != "jc_app" and MACHINE.search(text):
             yield f"{path} names {MACHINE.search(text)[0]}"

@@ -11,16 +11,18 @@ use std::sync::atomic::{AtomicU64, Ordering};
 use std::thread::yield_now;
 
 /// How often a gate looks whether all threads have started, before it goes on without them.
-const LOOKS_AT_START: u64 = 100_000;
+const LOOKS_AT_START: u64 = 1_000_000;
 
 /// How often it looks whether another thread has gone on, before it does.
 const LOOKS: u64 = 8;
 
 /// The gate of a replica's thread. Before the first event it waits until the threads of all replicas have started, and
-/// before each later one it lets another thread go first, if one comes soon. It never waits without end.
-#[derive(Drop)]
+/// before each later one it lets another thread go first, if one comes soon. It never waits without end. A gate that is
+/// dropped before it was asked lets all others go on: its thread couldn't be made, so they would wait in vain.
 pub struct Meeting<'a> {
     threads: u64,
+    /// Whether its thread has started.
+    has_come: bool,
     /// How many threads have started.
     started: &'a AtomicU64,
     /// How many times a thread was let go on.
@@ -48,11 +50,26 @@ fn wait_for_another(count: &AtomicU64) {
     }
 }
 
+impl Drop for Meeting<'_> {
+    fn drop(self) {
+        let Meeting {
+            threads,
+            has_come,
+            started,
+            takes: _,
+        } = self;
+        if !has_come {
+            started.fetch_add(threads, Ordering::SeqCst);
+        }
+    }
+}
+
 impl<'a> Gate for Meeting<'a> {
     ghost asked = { λ _. None };
 
     fn before<R: Wait>(&mut self, _rt: &R, _replica: u16, step: u64) {
         if step == 0 {
+            self.has_come = true;
             self.started.fetch_add(1, Ordering::SeqCst);
             wait_for(self.started, self.threads);
         } else {
@@ -75,6 +92,7 @@ pub fn gates_of<'a>(
     for _ in 0..count {
         gates.push(Meeting {
             threads: count as u64,
+            has_come: false,
             started,
             takes,
         })?;

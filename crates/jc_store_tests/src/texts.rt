@@ -1,11 +1,12 @@
-//! Texts of identifiers and keys, and the tree of a store as JSON.
+//! Texts of identifiers and keys, values and identifiers as written JSON, and the tree of a store as JSON.
 
-use crate::keys::{At, FIRST, Keys, Set, Tag, Values, text};
+use crate::keys::{At, FIRST, Keys, SECOND, Set, Tag, Values, text};
 use crate::steps::Step;
 use crate::twins::Twins;
-use jc_json::{Tree, id_text, key_text, tagged_text};
-use jc_rules::{Key, Tagged, Text};
+use jc_json::{Tree, id_text, key_text, tagged_text, write_id, write_ids, write_value};
+use jc_rules::{Key, Tagged, Text, Value};
 use jc_tree::TreeStore;
+use json::Writer;
 use std::alloc::{AllocError, Global};
 use std::process::Abort;
 
@@ -76,9 +77,36 @@ fn is_identifier(keys: &Keys) -> Result<bool, AllocError> {
     Ok(id_text(keys.alloc, &keys.names, FIRST)?.as_str() == "1@b")
 }
 
-/// Keys, a name and an identifier have their texts.
+/// Whether a list is written with an identifier, identifiers and values, each as its text.
+fn is_written(keys: &Keys) -> Result<bool, AllocError> {
+    let (alloc, names) = (keys.alloc, &keys.names);
+    let mut out = Writer::new(Vec::new(alloc));
+    out.begin_array()?;
+    write_id(alloc, names, FIRST, &mut out)?;
+    write_ids(alloc, names, &[FIRST, SECOND], &mut out)?;
+    write_value(&Value::Number(text(alloc, "1e5")?), &mut out)?;
+    write_value(&Value::Str(text(alloc, "\"")?), &mut out)?;
+    for value in [
+        Value::True,
+        Value::False,
+        Value::Null,
+        Value::EmptyMap,
+        Value::EmptyList,
+    ] {
+        write_value(&value, &mut out)?;
+    }
+    out.end_array()?;
+    let want = "[\"1@b\",[\"1@b\",\"2@a\"],{\"n\":\"1e5\"},\"\\\"\",true,false,null,{},[]]";
+    Ok(out.into_inner().as_slice() == want.as_bytes())
+}
+
+/// Keys, a name and an identifier have their texts, also where they are written.
 pub fn keys_and_identifiers(rt: &impl Abort, keys: &Keys) -> Result<(), AllocError> {
-    let is = are_keys(keys)? && are_children(keys)? && is_escaped(keys)? && is_identifier(keys)?;
+    let is = are_keys(keys)?
+        && are_children(keys)?
+        && is_escaped(keys)?
+        && is_identifier(keys)?
+        && is_written(keys)?;
     assert!(rt; is);
     Ok(())
 }
