@@ -10,6 +10,7 @@ pub mod GivenStuckLemmas
 pub mod JournaledLemmas
 pub mod LawsLemmas
 pub mod SomeRunLemmas
+pub mod ShowLemmas
 pub mod SessionRunsLemmas
 pub mod CommandsLemmas
 pub mod ThreadRunsLemmas
