@@ -15,8 +15,8 @@ pub returns : goal.returns
 returns c =
     let names = c.args.names.now in
     let key = key_text names c.args.key.now in
-    let ids : Gains c.args.out.now c.write_ids.new.out (labelled_tokens (some_ids names (codes "gained") c.args.own.now.gained.items)) =
-    subst (λ (is : List Id). Gains c.args.out.now c.write_ids.new.out (labelled_tokens (some_ids names (codes "gained") is))) c.as_slice.ensures.value c.in_ok-write_ids.ensures in
+    let ids : Gains c.args.out.now c.write_some_ids.new.out (labelled_tokens (some_ids names (codes "gained") c.args.own.now.gained.items)) =
+    subst (λ (is : List Id). Gains c.args.out.now c.write_some_ids.new.out (labelled_tokens (some_ids names (codes "gained") is))) c.as_slice.ensures.value c.in_ok-write_some_ids.ensures in
     on_ok_weaker c.string.result
     (λ e. labelled_then _ _ _ (some_ids names (codes "gained") c.args.own.now.gained.items) ((codes "key", string key) ∷ []) ids
     (labelled_one _ _ _ (codes "key") (string key) (gains_one _ _ _ _ _ c.in_ok-key.was c.key.ensures)

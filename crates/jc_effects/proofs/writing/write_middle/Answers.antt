@@ -11,6 +11,6 @@ pub returns : goal.returns
 returns c = λ k.
     let names = c.args.names.now in
     let own = c.args.own.now in
-    let ids : Gains c.args.out.now c.write_ids.new.out (labelled_tokens (some_ids names (codes "lost") own.lost.items)) =
-    subst (λ (is : List Id). Gains c.args.out.now c.write_ids.new.out (labelled_tokens (some_ids names (codes "lost") is))) c.as_slice.ensures.value c.in_ok-write_ids.ensures in
+    let ids : Gains c.args.out.now c.write_some_ids.new.out (labelled_tokens (some_ids names (codes "lost") own.lost.items)) =
+    subst (λ (is : List Id). Gains c.args.out.now c.write_some_ids.new.out (labelled_tokens (some_ids names (codes "lost") is))) c.as_slice.ensures.value c.in_ok-write_some_ids.ensures in
     on_ok_weaker c.write_made.result (λ x. labelled_then _ _ _ (some_ids names (codes "lost") own.lost.items) (some_tags (tags_made k own.made)) ids x) (c.write_made.ensures k)

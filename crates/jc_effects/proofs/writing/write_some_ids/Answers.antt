@@ -13,7 +13,7 @@ returns c =
     let names = c.args.names.now in
     let ids = c.args.ids.now in
     let items = as_items (map (id_json names) ids) in
-    let listed = λ x. subst (λ (is : Items). Gains c.key.new.self c.write_ids.new.out (json_tokens (array is))) (id_items names ids) x in
     on_ok_weaker c.write_ids.result
-    (λ x. some_written _ _ _ c.args.name.now items (items_empty (id_json names) ids c.is_empty.result c.is_empty.ensures c.if-is_empty.false) (gains_one _ _ _ _ _ c.in_ok-key.was c.key.ensures) (listed x))
+    (λ x. some_written _ _ _ c.args.name.now items (items_empty (id_json names) ids c.is_empty.result c.is_empty.ensures c.if-is_empty.false) (gains_one _ _ _ _ _ c.in_ok-key.was c.key.ensures)
+    (subst (λ (is : Items). Gains c.key.new.self c.write_ids.new.out (json_tokens (array is))) (id_items names ids) x))
     c.write_ids.ensures
