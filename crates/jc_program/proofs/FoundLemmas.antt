@@ -1,5 +1,5 @@
 -- About Found: commands on what their file was read as. `scenario_in`, `execute` and those that call them use it.
-use Rattle.std.proofs.Common.{◌≡◌, ◌≢◌, ◌⊎◌, ℕ, ◌+◌, inl, inr, List, [], Option, Some, None, Result, Ok, Err, IsErrAnd, IfErr, refl, sym, subst}
+use Rattle.std.proofs.Common.{◌≡◌, ◌≢◌, ◌⊎◌, ℕ, ◌+◌, inl, inr, List, [], Option, Some, None, Result, Ok, Err, IsErrAnd, IfOk, IfErr, refl, sym, subst}
 use Rattle.jc_io.specs.Streams.{IsPrefixUpTo}
 use Rattle.jc_io.specs.Written.{Stream, Sent, Written, WrittenInPart}
 use Rattle.jc_io.proofs.WrittenLemmas.{wrote_none}
@@ -29,6 +29,15 @@ use Rattle.jc_program.proofs.ReadsScenarioLemmas.{reads_whole}
 pub passed_on : {T E : Type 0} (r : Result T E) (x : E) (P : E → Type 0) → IsErrAnd r (λ e. e ≡ x) → P x → IfErr r P
 passed_on (Ok v) x P h p = absurd h
 passed_on (Err e) x P h p = subst P (sym h) p
+
+-- what holds for all that is known of a file holds of each result
+pub if_ok_all : {T E : Type 0} (r : Result T E) (P : Option (List ℕ) → Type 0) (Q : T → Option (List ℕ) → Option (List ℕ) → Type 0) → ((told lines : Option (List ℕ)) → P told → IfOk r (λ x. Q x told lines)) → IfOk r (λ x. (told lines : Option (List ℕ)) → P told → Q x told lines)
+if_ok_all (Ok x) P Q h = λ told lines p. h told lines p
+if_ok_all (Err e) P Q h = tt
+
+pub if_err_all : {T E : Type 0} (r : Result T E) (P : Option (List ℕ) → Type 0) (Q : E → Option (List ℕ) → Option (List ℕ) → Option (List ℕ) → Type 0) → ((told lines left : Option (List ℕ)) → P told → IfErr r (λ e. Q e told lines left)) → IfErr r (λ e. (told lines left : Option (List ℕ)) → P told → Q e told lines left)
+if_err_all (Ok x) P Q h = tt
+if_err_all (Err e) P Q h = λ told lines left p. h told lines left p
 
 -- what was read is a prefix of the file, and is read as the whole
 pub found_on_front : (n : ℕ) (told : Option (List ℕ)) (v w : List ℕ) (found : Result ScenarioValue ScenarioFault) → n ≡ 8388609 → IsPrefixUpTo n told v → w ≡ v → ReadsAs w (found_view found) → IsFound told found

@@ -7,6 +7,9 @@ use Rattle.jc_session.specs.Answers.{Origin}
 use Rattle.jc_session.specs.SessionText.{End, finished, too_many, text_refused, given_stuck, ShowsSession, refused, stuck, talks}
 use Rattle.jc_session.specs.Sent.{OfLines, OfLinesLeft, WentToRead, WentWhole, WentFront, ShowsAll, IsPast, WentRefused, WentGiven, OnScenario}
 use Rattle.jc_io.specs.declared.io.Sink.{Ghosts as SinkGhosts}
+use Rattle.jc_io.specs.declared.io.ReadFault.{ReadFault}
+use Rattle.jc_io.specs.declared.io.ReadFault.TheVariants as I
+use Rattle.jc_program.specs.WorkFaults.{read_fault}
 use Rattle.jc_io.specs.Written.{Stream, sink}
 use Rattle.jc_debug.specs.DebuggerState.{Session}
 use Rattle.jc_program.specs.SessionRuns.{lines_by, ShowsTo, TalksOn, StopsOn, HasTalked, HasStopped}
@@ -107,10 +110,14 @@ stopped_by fault n told lines left own own_left old new v w is front same kept r
     stopped_on_front fault n told lines left old new v is front (subst (λ (x : List ℕ). StopsOn fault x lines left old new) same (subst (λ (l : Option (List ℕ)). StopsOn fault w l left old new) (sym kept) (subst (λ (l : Option (List ℕ)). StopsOn fault w own l old new) (sym rest) h)))
 
 -- where no line was read, nothing was shown
-pub unread : (told lines left : Option (List ℕ)) (old new : Stream) → left ≡ lines → new ≡ old → HasStopped Read told lines left old new
+unread : (told lines left : Option (List ℕ)) (old new : Stream) → left ≡ lines → new ≡ old → HasStopped Read told lines left old new
 unread None lines left old new same out = ([], tt, inl (same, out))
 unread (Some bytes) lines left old new same out = (bytes, refl, inl (same, out))
 
 pub without_memory : (told lines left : Option (List ℕ)) (old new : Stream) → left ≡ lines → new ≡ old → HasStopped Memory told lines left old new
 without_memory None lines left old new same out = ([], tt, inl (same, out))
 without_memory (Some bytes) lines left old new same out = (bytes, refl, inl (same, out))
+
+pub unstarted : (told lines left : Option (List ℕ)) (old new : Stream) (why : ReadFault) → left ≡ lines → new ≡ old → HasStopped (read_fault why) told lines left old new
+unstarted told lines left old new I.Failed same out = unread told lines left old new same out
+unstarted told lines left old new I.Memory same out = without_memory told lines left old new same out

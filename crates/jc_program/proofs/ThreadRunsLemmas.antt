@@ -1,5 +1,5 @@
 -- About ThreadRuns: what was told of a recording, or for want of one. The functions `threads` and `execute` use it.
-use Rattle.std.proofs.Common.{◌≡◌, ◌⊎◌, ℕ, ◌+◌, arith, inl, inr, List, [], Option, Some, None, Result, Ok, Err, IfOk, IfErr, string_bytes, refl, ap, sym, subst}
+use Rattle.std.proofs.Common.{◌≡◌, ◌⊎◌, ℕ, ◌+◌, arith, inl, inr, List, [], Option, Some, None, Result, Ok, Err, IfOk, IfErr, OnOk, string_bytes, refl, ap, sym, subst}
 use Rattle.jc_scenario.specs.WellFormed.{Scenario, IsScenario}
 use Rattle.jc_io.specs.Written.{Stream, Wrote, WrotePart, Sent, WrittenInPart}
 use Rattle.jc_io.proofs.WrittenLemmas.{wrote_none}
@@ -75,7 +75,7 @@ module _ (IsMade : Scenario → Recording → Type 0) (s : Scenario) (old new ol
 -- ---- failures
 
 -- none was counted at the end
-pub told_same : (recorded : Result Recording RecordFault) (result : Result ℕ WorkFault) (old new old_err new_err : Stream) → IsTold recorded result old new old_err new_err → IfOk result (λ status. new.failures ≡ old.failures)
+pub told_same : (recorded : Result Recording RecordFault) (result : Result ℕ WorkFault) (old new old_err new_err : Stream) → IsTold recorded result old new old_err new_err → OnOk result (new.failures ≡ old.failures)
 told_same (Ok r) (Ok status) old new old_err new_err (ends, wrote, sent) = wrote.1
 told_same (Err (F.Given lines)) (Ok status) old new old_err new_err (ends, wrote, quiet) = wrote.1
 told_same (Err F.Memory) (Ok status) old new old_err new_err (e, same) = absurd cc

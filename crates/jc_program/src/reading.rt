@@ -61,7 +61,11 @@ pub fn scenario_in<R: AllocGlobal + Files, I: Source>(
     drop(text);
     match found {
         Ok(scenario) => Ok(Ok(scenario)),
-        Err(ScenarioFault::Memory) => Err(ReadFault::Memory),
-        Err(fault) => Ok(Err(fault)),
+        Err(fault) => {
+            if let ScenarioFault::Memory = fault {
+                return Err(ReadFault::Memory);
+            }
+            Ok(Err(fault))
+        }
     }
 }

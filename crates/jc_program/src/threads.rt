@@ -42,8 +42,12 @@ pub fn threads<R: Threads + Wait + Sync + AllocGlobal + Files, I: Source, K: Sin
     ensures cause { IfErr result (λ fault. IsCause fault (IsUnread (R.may_fail rt.now) file.now)
         (I.failures input.old) (I.failures input.new) (K.failures out.old) (K.failures out.new)) }
 {
-    match scenario_in(rt, file, input)? {
+    let found = scenario_in(rt, file, input)?;
+    match found {
         Ok(scenario) => tell(&record(rt, rt.alloc(), scenario, limit), out, err),
-        Err(fault) => Ok(refuse(rt.alloc(), &fault, out)?),
+        Err(fault) => {
+            let refused = refuse(rt.alloc(), &fault, out)?;
+            Ok(refused)
+        }
     }
 }
