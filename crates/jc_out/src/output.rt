@@ -10,6 +10,7 @@ ghost use Rattle.jc_out.specs.Pieces.{pieces_text, EndsAfter};
 
 use jc_io::{Failed, Sink, write_all};
 use std::alloc::Global;
+use std::mem::swap;
 
 /// So many bytes and more are sent; fewer are held.
 const FULL: usize = 65_536;
@@ -109,6 +110,18 @@ impl<'a, K: Sink> Out<'a, K> {
         } else {
             self.send();
             self.write(bytes);
+        }
+    }
+
+    /// Sends what is held, and gives its room away for another, which is emptied. After a failed write it sends nothing.
+    pub fn swap_room(&mut self, room: &mut Vec<u8>)
+        ensures added { AddsText [] (output K.Sink self.old) (output K.Sink self.new) }
+        ensures none { room.new.items ≡ [] }
+    {
+        self.send();
+        room.clear();
+        if self.held.is_empty() {
+            swap(self.held, room);
         }
     }
 
