@@ -1,7 +1,7 @@
 -- About `Claims`: the fault that is read is a fault of the lexemes, and there is no other.
 use Rattle.std.proofs.Common.{◌≡◌, ◌⊎◌, inl, inr, List, [], ◌∷◌, ◌++◌, Option, Some, None, Result, Ok, Err, refl, sym, ap, subst, ◌∙◌, append_assoc, length, ◌≤◌, arith}
 use Rattle.std.proofs.lemmas.List.{append-nil, length-append}
-use Rattle.jc_parser.specs.Symbols.{Lexeme}
+use Rattle.jc_grammar.specs.Symbols.{Lexeme}
 use Rattle.jc_grammar.specs.Guards.{TextFault, Misfit}
 use Rattle.jc_grammar.specs.Grammar.{NoticedFault}
 use Rattle.jc_grammar.specs.TreeReader.{refused_at}

@@ -1,8 +1,8 @@
-mod LookAheadLemmas
-mod FaultsDecideLemmas
-mod FaultsLemmas
-mod TreeReaderLemmas
+pub mod LookAheadLemmas
+pub mod FaultsDecideLemmas
+pub mod FaultsLemmas
+pub mod TreeReaderLemmas
 mod LookAheadListsLemmas
-mod ScenarioGrammarLemmas
+pub mod ScenarioGrammarLemmas
 mod ExamplesLemmas
 mod LimitsLemmas

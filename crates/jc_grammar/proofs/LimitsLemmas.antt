@@ -4,7 +4,7 @@ use Rattle.jc_rules.specs.declared.limits.TheConstants.{MAX_COMMANDS, MAX_EVENTS
 use Rattle.jc_rules.specs.declared.version.Version.{Version}
 use Rattle.jc_rules.specs.declared.version.Version.TheVariants.{One, Two}
 use Rattle.jc_syntax.specs.declared.token.TokenKind.TheVariants.{Semi}
-use Rattle.jc_parser.specs.Symbols.{Lexeme}
+use Rattle.jc_grammar.specs.Symbols.{Lexeme}
 use Rattle.jc_grammar.specs.Guards.{TextFault, GuardState, refuses, Guard, verdict_of, no_command, no_event}
 use Rattle.jc_grammar.specs.Grammar.{Grammar, ParseTree, leaves, NoticedFault, first_of, verdict_at, refusal_by, first_refusal, state_after, listed, ◌then◌, guarded}
 use Rattle.jc_grammar.specs.LookAhead.{may_be_empty}

@@ -5,8 +5,8 @@ use Rattle.std.specs.Str.{bytes_eq}
 use Rattle.std.proofs.lemmas.Bool.{cases_Bool, eqb-true, eq-eqb}
 use Rattle.std.proofs.lemmas.List.{append-nil}
 use Rattle.std.proofs.lemmas.Slice.Eq.{bytes_eq-Decides}
-use Rattle.jc_parser.specs.Symbols.{Symbol, word, number, Lexeme}
-use Rattle.jc_parser.specs.ReaderState.{kind_of_symbol, number_of_kind, same_kind}
+use Rattle.jc_grammar.specs.Symbols.{Symbol, word, number, Lexeme}
+use Rattle.jc_grammar.specs.SymbolTests.{kind_of_symbol, number_of_kind, same_kind}
 use Rattle.jc_grammar.specs.Classes.{Class, is_in, is_of, kind_of_class, are_apart, any, the_word, other_word, the_number, digits}
 use Rattle.jc_grammar.specs.Grammar.{Grammar, ParseTree, leaves, FitsClasses, symbol, nothing, ◌then◌, ◌or◌, guarded}
 use Rattle.jc_grammar.specs.LookAhead.{is_of_any, begins_with_any, may_be_empty, first_classes, is_apart_from, all_are_apart}

@@ -3,7 +3,7 @@ use Rattle.std.proofs.Common.{◌≡◌, ◌⊎◌, inl, inr, Bool, true, false,
 use Rattle.std.specs.Prelude.{not}
 use Rattle.std.proofs.lemmas.Bool.{cases_Bool}
 use Rattle.std.proofs.lemmas.List.{append-nil}
-use Rattle.jc_parser.specs.Symbols.{Lexeme}
+use Rattle.jc_grammar.specs.Symbols.{Lexeme}
 use Rattle.jc_grammar.specs.Classes.{Class, is_of, example_of}
 use Rattle.jc_grammar.specs.Guards.{TextFault, Misfit, GuardState, Verdict, Guard, refuses, passes}
 use Rattle.jc_grammar.specs.Grammar.{Grammar, ParseTree, leaves, FitsClasses, NoticedFault, first_of, verdict_at, state_after, refusal_by, first_refusal, symbol, nothing, ◌then◌, ◌or◌, guarded}

@@ -3,9 +3,8 @@ use Rattle.std.specs.Prelude.{ℕ, List, [], ◌∷◌, Bool, false, not, ◌||�
 use Rattle.std.specs.Str.{bytes_eq}
 use Rattle.jc_syntax.specs.declared.token.TokenKind.{TokenKind}
 use Rattle.jc_syntax.specs.declared.token.TokenKind.TheVariants.{Name, Number}
-use Rattle.jc_parser.specs.Symbols.{Symbol, word, number, symbol_of}
-use Rattle.jc_parser.specs.Expressions.{is_numeral}
-use Rattle.jc_parser.specs.ReaderState.{same_kind, has_kind, is_word, is_number_symbol}
+use Rattle.jc_grammar.specs.Symbols.{Symbol, word, number, symbol_of}
+use Rattle.jc_grammar.specs.SymbolTests.{same_kind, has_kind, is_word, is_number_symbol, is_numeral}
 
 -- any symbol of a kind, one word, a word but for these, one number as it is spelled, and a number of digits alone
 pub data Class : Type 0 where

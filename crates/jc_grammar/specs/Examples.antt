@@ -4,7 +4,7 @@ use Rattle.std.specs.Prelude.{◌≡◌, ℕ, zero, suc, List, [], ◌∷◌, �
 use Rattle.jc_rules.specs.declared.limits.TheConstants.{MAX_SELECTORS, MAX_REPLICAS}
 use Rattle.jc_rules.specs.declared.refusal.Refusal.{Refusal}
 use Rattle.jc_rules.specs.declared.refusal.Refusal.TheVariants.{Unexpected, EndOfText, IndexTooLarge, ReservedName, TooLongExpression, NoHeader, SameName, NoReplica, TooManyReplicas}
-use Rattle.jc_parser.specs.Symbols.{Symbol, word, number, dot, open_paren, close_paren, open_brace, close_brace, comma, assign, equals, Lexeme}
+use Rattle.jc_grammar.specs.Symbols.{Symbol, word, number, dot, open_paren, close_paren, open_brace, close_brace, comma, assign, equals, Lexeme}
 use Rattle.jc_grammar.specs.Guards.{TextFault, nothing_seen}
 use Rattle.jc_grammar.specs.Grammar.{Grammar, NoticedFault}
 use Rattle.jc_grammar.specs.TreeReader.{read_whole}

@@ -1,6 +1,6 @@
 -- What a language is, and the fault of lexemes that are no sentence of it. Nothing here knows how a grammar is read.
 use Rattle.std.specs.Prelude.{◌≡◌, ◌≤◌, length, ◌⊎◌, List, [], ◌∷◌, ◌++◌, Option, Some, None, Result, Err}
-use Rattle.jc_parser.specs.Symbols.{Lexeme}
+use Rattle.jc_grammar.specs.Symbols.{Lexeme}
 use Rattle.jc_grammar.specs.Guards.{TextFault, Misfit, GuardState}
 use Rattle.jc_grammar.specs.Grammar.{Grammar, ParseTree, leaves, FitsClasses, NoticedFault, first_refusal}
 

@@ -1,7 +1,7 @@
 -- A grammar as a value: its trees, the lexemes that each is spelled with, and what its guards refuse in it.
 use Rattle.std.specs.Prelude.{◌≡◌, ℕ, zero, suc, ◌⊎◌, List, [], ◌∷◌, ◌++◌, true, Option, Some, None}
 use Rattle.std.proofs.Common.{inl, inr}
-use Rattle.jc_parser.specs.Symbols.{Lexeme}
+use Rattle.jc_grammar.specs.Symbols.{Lexeme}
 use Rattle.jc_grammar.specs.Classes.{Class, is_of}
 use Rattle.jc_grammar.specs.Guards.{TextFault, GuardState, Verdict, refuses, passes, Guard, verdict_of}
 

@@ -2,11 +2,8 @@
 use Rattle.std.specs.Prelude.{ℕ, List, [], ◌∷◌, length, if◌then◌else◌, codes, nat_lt}
 use Rattle.jc_rules.specs.declared.refusal.Refusal.{Refusal}
 use Rattle.jc_rules.specs.declared.refusal.Refusal.TheVariants.{IndexTooLarge, ReservedName, TooManyCommands, TooLongExpression, SameName, TooManyReplicas, TooManyEvents}
-use Rattle.jc_parser.specs.Symbols.{Lexeme}
-use Rattle.jc_parser.specs.Expressions.{numeral_value}
-use Rattle.jc_parser.specs.ReservedWords.{is_reserved}
-use Rattle.jc_parser.specs.ReaderState.{is_word, value_of_symbol}
-use Rattle.jc_parser.specs.ScriptReader.{is_misused}
+use Rattle.jc_grammar.specs.Symbols.{Lexeme}
+use Rattle.jc_grammar.specs.SymbolTests.{value_of_symbol, is_word, numeral_value, is_reserved, is_misused}
 use Rattle.jc_grammar.specs.Classes.{is_in}
 
 -- a refusal, and the offset that is told with it

@@ -1,6 +1,6 @@
 -- The laws' statements of each grammar in which the next symbol decides each choice.
 use Rattle.std.specs.Prelude.{◌≡◌, List, [], true, None, Ok}
-use Rattle.jc_parser.specs.Symbols.{Lexeme}
+use Rattle.jc_grammar.specs.Symbols.{Lexeme}
 use Rattle.jc_grammar.specs.Guards.{TextFault, Misfit, GuardState}
 use Rattle.jc_grammar.specs.Grammar.{Grammar, ParseTree}
 use Rattle.jc_grammar.specs.LookAhead.{is_decided}

@@ -1,3 +1,5 @@
+pub mod Symbols
+pub mod SymbolTests
 pub mod Classes
 pub mod Guards
 pub mod Grammar

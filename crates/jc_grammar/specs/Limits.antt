@@ -4,7 +4,7 @@ use Rattle.std.proofs.Common.{inl, inr}
 use Rattle.jc_rules.specs.declared.limits.TheConstants.{MAX_COMMANDS, MAX_EVENTS}
 use Rattle.jc_rules.specs.declared.version.Version.{Version}
 use Rattle.jc_syntax.specs.declared.token.TokenKind.TheVariants.{Semi}
-use Rattle.jc_parser.specs.Symbols.{Lexeme}
+use Rattle.jc_grammar.specs.Symbols.{Lexeme}
 use Rattle.jc_grammar.specs.Guards.{GuardState, Guard, no_command, no_event}
 use Rattle.jc_grammar.specs.Grammar.{Grammar, ParseTree, first_refusal, listed}
 use Rattle.jc_grammar.specs.ScenarioGrammar.{token, command, script, event, events}

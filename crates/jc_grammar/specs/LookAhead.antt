@@ -1,6 +1,6 @@
 -- Which symbol may come first, and the test that the next symbol decides each choice: LL(1).
 use Rattle.std.specs.Prelude.{List, [], ◌∷◌, ◌++◌, Bool, true, false, ◌&&◌, ◌||◌, not}
-use Rattle.jc_parser.specs.Symbols.{Symbol, Lexeme}
+use Rattle.jc_grammar.specs.Symbols.{Symbol, Lexeme}
 use Rattle.jc_grammar.specs.Classes.{Class, is_of, example_of, are_apart}
 use Rattle.jc_grammar.specs.Grammar.{Grammar, symbol, nothing, ◌then◌, ◌or◌, guarded}
 

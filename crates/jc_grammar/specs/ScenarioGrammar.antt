@@ -8,8 +8,8 @@ use Rattle.jc_rules.specs.declared.version.Version.{Version}
 use Rattle.jc_rules.specs.declared.version.Version.TheVariants.{One, Two}
 use Rattle.jc_syntax.specs.declared.token.TokenKind.{TokenKind}
 use Rattle.jc_syntax.specs.declared.token.TokenKind.TheVariants.{Name, Number, Str, Dot, ParenL, ParenR, BraceL, BraceR, BracketL, BracketR, Comma, Semi, Assign, Equals}
-use Rattle.jc_parser.specs.Symbols.{Lexeme}
-use Rattle.jc_parser.specs.ReaderState.{place_at}
+use Rattle.jc_grammar.specs.Symbols.{Lexeme}
+use Rattle.jc_grammar.specs.Symbols.{place_at}
 use Rattle.jc_grammar.specs.Classes.{any, the_word, other_word, the_number, digits}
 use Rattle.jc_grammar.specs.Guards.{fault_at, Misfit, small_index, free_binding, free_root, dot_seen, new_replica, no_selector, no_command, no_event}
 use Rattle.jc_grammar.specs.Grammar.{Grammar, symbol, nothing, ◌then◌, ◌or◌, guarded, listed, chained, repeated}

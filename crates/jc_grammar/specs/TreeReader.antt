@@ -1,7 +1,7 @@
 -- How a tree is read from left to right: the next symbol chooses, and a guard is asked before its part is read.
 use Rattle.std.specs.Prelude.{List, [], ◌∷◌, if◌then◌else◌, Result, Ok, Err}
 use Rattle.std.proofs.Common.{inl, inr}
-use Rattle.jc_parser.specs.Symbols.{Lexeme}
+use Rattle.jc_grammar.specs.Symbols.{Lexeme}
 use Rattle.jc_grammar.specs.Classes.{Class, is_of}
 use Rattle.jc_grammar.specs.Guards.{TextFault, Misfit, GuardState, Verdict, refuses, passes}
 use Rattle.jc_grammar.specs.Grammar.{Grammar, symbol, nothing, ◌then◌, ◌or◌, guarded, ParseTree, NoticedFault, verdict_at}

@@ -50,7 +50,7 @@ whole_ok v r e h =
 
 -- ---- what is refused
 
-call_err : (read : ReadOutcome NamedEvent) (d : ScenarioFault) → (read >>= result_of_read) ≡ Err d → ((read >>= λ e. Ok (call_of e.0, e.1)) >>= result_of_read) ≡ Err d
+pub call_err : (read : ReadOutcome NamedEvent) (d : ScenarioFault) → (read >>= result_of_read) ≡ Err d → ((read >>= λ e. Ok (call_of e.0, e.1)) >>= result_of_read) ≡ Err d
 call_err (Ok x) d h = let (more, same) = chosen_err (is_at_end x.1) x.0 (stuck x.1) d h in rw more (ap Err same)
 call_err (Err f) d h = let same : f ≡ d = cc in ap Err same
 

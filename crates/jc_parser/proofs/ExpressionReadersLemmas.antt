@@ -179,7 +179,7 @@ steps_at (suc n) e r =
     (skip (has_kind Dot) r >>= λ a. step_at a.1 >>= λ s. steps_at n (extended e s.0) s.1)
     (Ok (e, r))
 
-step_none : (stop : ℕ) (ls : List Lexeme) → begins_with is_selector ls ≡ false → step_at (reading stop ls) ≡ Err (stuck_at stop ls)
+pub step_none : (stop : ℕ) (ls : List Lexeme) → begins_with is_selector ls ≡ false → step_at (reading stop ls) ≡ Err (stuck_at stop ls)
 unfolding step_at one
 step_none stop [] other = refl
 step_none stop (x ∷ xs) other =

@@ -47,3 +47,11 @@ mod ScenarioLoopsLemmas
 mod ScenarioAgainLemmas
 mod ScenarioLimitsLemmas
 mod ScenarioLawsLemmas
+mod GrammarAgreesLemmas
+mod GrammarSaidLemmas
+mod GrammarEventsLemmas
+mod GrammarExpressionsLemmas
+mod GrammarListsLemmas
+mod GrammarScriptsLemmas
+mod GrammarStatesLemmas
+mod GrammarScenariosLemmas

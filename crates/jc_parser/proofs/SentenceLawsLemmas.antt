@@ -70,7 +70,7 @@ kind_of {T} L W V f limits r e s =
       | inr o ↦ inr (subst (λ (ls : List Lexeme). IsLimit {A = T} {R = T} (Spelling L W) (λ l. f (reading r.stop l) >>= result_of_read) e ls) (sym s.parts) (limits r.stop e s.before s.after o))
     ]
 
-no_stop : {T : Type 0} (L : T → List Symbol → Type 0) (W : T → Type 0) (V : Excess) (f : Reading → ReadOutcome T) → ReadsSpelled L W f → HasLimits L W V f → (r : Reading) (t : T) (e : ScenarioFault) → L t (symbols r.left) → W t → IsStopped L W V r e → ⊥
+pub no_stop : {T : Type 0} (L : T → List Symbol → Type 0) (W : T → Type 0) (V : Excess) (f : Reading → ReadOutcome T) → ReadsSpelled L W f → HasLimits L W V f → (r : Reading) (t : T) (e : ScenarioFault) → L t (symbols r.left) → W t → IsStopped L W V r e → ⊥
 no_stop L W V f again limits r t e text within s =
     elim (kind_of L W V f limits r e s) [
       | inl (before, after, h, is) ↦ stray_is_none r.left before after t h (text, tt)

@@ -1,22 +1,12 @@
 -- The grammar of expressions, and their limits. Scripts contain them.
-use Rattle.std.specs.Prelude.{◌≡◌, ℕ, ◌≤◌, ◌<◌, List, [], ◌∷◌, ◌++◌, length, codes, Bool, true, false, ◌&&◌, ◌||◌, not, ◌==◌}
-use Rattle.std.specs.Str.{bytes_eq, all_ascii_digits}
-use Rattle.std.specs.Str.Parse.{digits_value}
+use Rattle.std.specs.Prelude.{◌≡◌, ℕ, ◌≤◌, ◌<◌, List, [], ◌∷◌, ◌++◌, codes, Bool, true, false, ◌||◌}
+use Rattle.std.specs.Str.{bytes_eq}
 use Rattle.jc_rules.specs.Syntax.{Expr, TheDoc, Variable, GetKey, Index, KeysOf, ValuesOf}
 use Rattle.jc_rules.specs.declared.limits.TheConstants.{MAX_SELECTORS}
+pub use Rattle.jc_grammar.specs.SymbolTests.{is_numeral, numeral_value}
 use Rattle.jc_parser.specs.Symbols.{Symbol, word, number, dot, open_paren, close_paren}
 use Rattle.jc_parser.specs.ReaderState.{is_word}
 use Rattle.jc_parser.specs.ReservedWords.{is_reserved, get_text, selector_count}
-
--- ---- numbers
-
--- one digit or more, and nothing else
-abbrev pub is_numeral : List ℕ → Bool
-is_numeral bs = not (length bs == 0) && all_ascii_digits bs
-
--- the value of digits
-abbrev pub numeral_value : List ℕ → ℕ
-numeral_value bs = digits_value 10 bs
 
 -- ---- selectors
 

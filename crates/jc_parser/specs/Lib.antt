@@ -22,3 +22,6 @@ pub mod ScenarioViews
 pub mod ScenarioLaws
 pub mod LegalSymbols
 pub mod LegalSymbolLaws
+pub mod GrammarTrees
+pub mod GrammarClaims
+pub mod GrammarLaws

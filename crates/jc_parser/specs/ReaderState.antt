@@ -1,14 +1,13 @@
 -- The state of a reader, its outcome, and the steps of one token. All readers are made of these.
-use Rattle.std.specs.Prelude.{◌≡◌, ◌≢◌, ℕ, List, [], ◌∷◌, Bool, true, false, ◌==◌, if◌then◌else◌, Result, Ok, Err, length}
-use Rattle.std.specs.Str.{bytes_eq}
+use Rattle.std.specs.Prelude.{◌≡◌, ◌≢◌, ℕ, List, [], ◌∷◌, Bool, true, false, if◌then◌else◌, Result, Ok, Err, length}
 use Rattle.jc_syntax.specs.declared.token.Token.{Token}
-use Rattle.jc_syntax.specs.declared.token.TokenKind.{TokenKind}
-use Rattle.jc_syntax.specs.declared.token.TokenKind.TheVariants.{Name, Number, Str, Dot, ParenL, ParenR, BraceL, BraceR, BracketL, BracketR, Comma, Semi, Assign, Equals}
+use Rattle.jc_syntax.specs.declared.token.TokenKind.TheVariants.{Name}
 use Rattle.jc_parser.specs.declared.fault.ScenarioFault.{ScenarioFault}
 use Rattle.jc_parser.specs.declared.fault.ScenarioFault.TheVariants.{Unexpected, EndOfText, Memory}
 use Rattle.jc_syntax.specs.declared.tree.Named.{Named}
-use Rattle.jc_parser.specs.ReservedWords.{is_reserved}
-use Rattle.jc_parser.specs.Symbols.{Symbol, word, number, string, dot, open_paren, close_paren, open_brace, close_brace, open_bracket, close_bracket, comma, semicolon, assign, equals, Lexeme, lexemes}
+pub use Rattle.jc_grammar.specs.Symbols.{place_at}
+pub use Rattle.jc_grammar.specs.SymbolTests.{kind_of_symbol, number_of_kind, same_kind, has_kind, value_of_symbol, is_word, is_number_symbol, reserved}
+use Rattle.jc_parser.specs.Symbols.{Symbol, Lexeme, lexemes}
 
 -- the lexemes that are left, and the length of the text
 pub record Reading : Type 0 where
@@ -32,70 +31,7 @@ abbrev pub MapsResult : {X Y : Type 0} → (X → Y) → Result X ScenarioFault 
 MapsResult view (Ok x) read = read ≡ Ok (view x)
 MapsResult view (Err e) read = e ≢ Memory → read ≡ Err e
 
--- ---- tests on symbols
-
-abbrev pub kind_of_symbol : Symbol → TokenKind
-kind_of_symbol (word bytes) = Name
-kind_of_symbol (number bytes) = Number
-kind_of_symbol (string content) = Str
-kind_of_symbol dot = Dot
-kind_of_symbol open_paren = ParenL
-kind_of_symbol close_paren = ParenR
-kind_of_symbol open_brace = BraceL
-kind_of_symbol close_brace = BraceR
-kind_of_symbol open_bracket = BracketL
-kind_of_symbol close_bracket = BracketR
-kind_of_symbol comma = Comma
-kind_of_symbol semicolon = Semi
-kind_of_symbol assign = Assign
-kind_of_symbol equals = Equals
-
-abbrev pub number_of_kind : TokenKind → ℕ
-number_of_kind Name = 0
-number_of_kind Number = 1
-number_of_kind Str = 2
-number_of_kind Dot = 3
-number_of_kind ParenL = 4
-number_of_kind ParenR = 5
-number_of_kind BraceL = 6
-number_of_kind BraceR = 7
-number_of_kind BracketL = 8
-number_of_kind BracketR = 9
-number_of_kind Comma = 10
-number_of_kind Semi = 11
-number_of_kind Assign = 12
-number_of_kind Equals = 13
-
-abbrev pub same_kind : TokenKind → TokenKind → Bool
-same_kind a b = number_of_kind a == number_of_kind b
-
-abbrev pub has_kind : TokenKind → Symbol → Bool
-has_kind kind s = same_kind (kind_of_symbol s) kind
-
--- the bytes of a word or a number, or what a string spells
-abbrev pub value_of_symbol : Symbol → List ℕ
-value_of_symbol (word bytes) = bytes
-value_of_symbol (number bytes) = bytes
-value_of_symbol (string content) = content
-value_of_symbol s = []
-
-abbrev pub is_word : List ℕ → Symbol → Bool
-is_word bytes (word own) = bytes_eq own bytes
-is_word bytes s = false
-
-abbrev pub is_number_symbol : List ℕ → Symbol → Bool
-is_number_symbol bytes (number own) = bytes_eq own bytes
-is_number_symbol bytes s = false
-
-abbrev pub reserved : Symbol → Bool
-reserved (word name) = is_reserved name
-reserved s = false
-
 -- ---- the next lexeme
-
-abbrev pub place_at : ℕ → List Lexeme → ℕ
-place_at stop [] = stop
-place_at stop (x ∷ xs) = x.place
 
 -- the offset of the next lexeme, or of the text's end
 abbrev pub place : Reading → ℕ

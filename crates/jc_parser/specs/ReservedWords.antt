@@ -1,25 +1,10 @@
 -- The grammar that sentences share: reserved words, the selector `get`, values, and lists with `;`.
-use Rattle.std.specs.Prelude.{◌≡◌, ℕ, suc, ◌⊎◌, List, [], ◌∷◌, ◌++◌, codes, Bool, ◌||◌}
-use Rattle.std.specs.Str.{bytes_eq}
+use Rattle.std.specs.Prelude.{◌≡◌, ℕ, suc, ◌⊎◌, List, [], ◌∷◌, ◌++◌, codes}
 use Rattle.jc_rules.specs.declared.value.Value.{Value}
 use Rattle.jc_rules.specs.declared.value.Value.TheVariants as values
 use Rattle.jc_rules.specs.Syntax.{Expr, TheDoc, Variable, GetKey, Index, KeysOf, ValuesOf}
+pub use Rattle.jc_grammar.specs.SymbolTests.{is_reserved}
 use Rattle.jc_parser.specs.Symbols.{Symbol, word, number, string, dot, open_paren, close_paren, semicolon}
-
-abbrev pub is_reserved : List ℕ → Bool
-is_reserved name =
-    bytes_eq name (codes "let")
-    || (bytes_eq name (codes "doc")
-    || (bytes_eq name (codes "yield")
-    || (bytes_eq name (codes "get")
-    || (bytes_eq name (codes "idx")
-    || (bytes_eq name (codes "keys")
-    || (bytes_eq name (codes "values")
-    || (bytes_eq name (codes "insertAfter")
-    || (bytes_eq name (codes "delete")
-    || (bytes_eq name (codes "true")
-    || (bytes_eq name (codes "false")
-    || bytes_eq name (codes "null")))))))))))
 
 -- ---- expressions and commands
 

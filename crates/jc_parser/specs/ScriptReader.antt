@@ -1,5 +1,5 @@
 -- How a script is read from left to right. The code follows these readers; a reader believes `Scripts`.
-use Rattle.std.specs.Prelude.{ℕ, List, Bool, true, false, ◌&&◌, not, if◌then◌else◌, codes, Result, Ok}
+use Rattle.std.specs.Prelude.{ℕ, List, Bool, true, false, if◌then◌else◌, codes, Result, Ok}
 use Rattle.jc_syntax.specs.declared.token.TokenKind.{TokenKind}
 use Rattle.jc_syntax.specs.declared.token.TokenKind.TheVariants.{Name, ParenL, ParenR, BraceL, BraceR, BracketL, BracketR, Assign, Equals}
 use Rattle.jc_rules.specs.declared.value.Value.{Value}
@@ -8,8 +8,8 @@ use Rattle.jc_rules.specs.Syntax.{Expr, Cmd, LetIn, SetTo, InsertAfter, DeleteAt
 use Rattle.jc_rules.specs.declared.limits.TheConstants.{MAX_COMMANDS, MAX_SELECTORS}
 use Rattle.jc_parser.specs.declared.fault.ScenarioFault.{ScenarioFault}
 use Rattle.jc_parser.specs.declared.fault.ScenarioFault.TheVariants.{ReservedName, TooManyCommands}
-use Rattle.jc_parser.specs.Symbols.{Symbol}
-use Rattle.jc_parser.specs.ReaderState.{Reading, ReadOutcome, ◌>>=◌, place, begins, has_kind, is_word, reserved, skip}
+pub use Rattle.jc_grammar.specs.SymbolTests.{is_misused}
+use Rattle.jc_parser.specs.ReaderState.{Reading, ReadOutcome, ◌>>=◌, place, begins, has_kind, is_word, skip}
 use Rattle.jc_parser.specs.PartReaders.{read_value_at, read_name_at, items_at, result_of_read}
 use Rattle.jc_parser.specs.ExpressionReader.{chain_at, root_at, expression_at}
 
@@ -84,11 +84,6 @@ command_at r =
     else update_at r)
 
 -- ---- scripts
-
--- a reserved word that is no keyword at a command's start
-abbrev pub is_misused : Symbol → Bool
-is_misused s =
-    reserved s && (not (is_word (codes "let") s) && (not (is_word (codes "yield") s) && not (is_word (codes "doc") s)))
 
 -- the fault of one command more than there may be
 abbrev pub too_many_commands_at : Reading → ScenarioFault

@@ -8,6 +8,7 @@ ghost use Rattle.jc_parser.specs.Events.{IsEvent, IsEventOf, IsEventFault, IsAhe
 ghost use Rattle.jc_parser.specs.EventReader.{last_name_at, sender_at, last_identifier_at, taking_at, application_at, common_action_at, action_at, any_event_at, only_event_at};
 ghost use Rattle.jc_parser.specs.Sentences.{IsStopped};
 ghost use Rattle.jc_parser.specs.Faults.{from_sentence, IsOfSentence};
+ghost use Rattle.jc_parser.specs.GrammarClaims.{IsSaidEvent, IsSaidEventFault, IsSaidOfText, IsSaidFaultOfText};
 
 use crate::cursor::Cursor;
 use crate::fault::ScenarioFault;
@@ -172,6 +173,10 @@ fn event_of(
     ensures fault { IfErr result (λ e. e ≢ ScenarioFault.Memory
         → IsStopped (IsCallSpelled version) IsCallWellFormed (IsCallExcess version)
         (reading_of text.now tokens.now) e) }
+    // The same by the language as one value.
+    ensures said { IfOk result (λ e. IsSaidEvent version (lexemes text.now tokens.now) e) }
+    ensures said_fault { IfErr result (λ e. e ≢ ScenarioFault.Memory
+        → IsSaidEventFault version (reading_of text.now tokens.now) e) }
     ensures kind { IfErr result IsOfSentence }
 {
     let mut cursor = Cursor::new(text, tokens);
@@ -182,6 +187,10 @@ fn event_of(
 fn event_in(alloc: Global, version: Version, text: &str) -> Result<NamedEvent, ScenarioFault>
     ensures tree { IfOk result (λ e. IsEventOf version text.now e) }
     ensures fault { IfErr result (λ e. e ≢ ScenarioFault.Memory → IsEventFault version text.now e) }
+    // The same by the language as one value.
+    ensures said { IfOk result (λ e. IsSaidOfText (IsSaidEvent version) text.now e) }
+    ensures said_fault { IfErr result (λ e. e ≢ ScenarioFault.Memory
+        → IsSaidFaultOfText (IsSaidEventFault version) text.now e) }
     ensures kind { IfErr result IsOfSentence }
 {
     let tokens = lex(alloc, text)?;
@@ -198,6 +207,10 @@ pub fn parse_event(alloc: Global, version: Version, text: &str) -> Result<NamedE
     ensures tree { IfOk result (λ e. IsEventOf version text.now e) }
     // What is refused has this fault.
     ensures fault { IfErr result (λ e. e ≢ ParseFault.Memory → IsEventFault version text.now (from_sentence e)) }
+    // The same by the language as one value.
+    ensures said { IfOk result (λ e. IsSaidOfText (IsSaidEvent version) text.now e) }
+    ensures said_fault { IfErr result (λ e. e ≢ ParseFault.Memory
+        → IsSaidFaultOfText (IsSaidEventFault version) text.now (from_sentence e)) }
 {
     match event_in(alloc, version, text) {
         Ok(event) => Ok(event),

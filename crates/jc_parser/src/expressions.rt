@@ -12,6 +12,7 @@ ghost use Rattle.jc_parser.specs.Sentences.{IsStopped};
 ghost use Rattle.jc_parser.specs.Symbols.{lexemes, symbols};
 ghost use Rattle.jc_parser.specs.Faults.{from_sentence, IsOfSentence};
 ghost use Rattle.jc_parser.specs.Views.{selector_view, chain_view};
+ghost use Rattle.jc_parser.specs.GrammarClaims.{IsSaidExpression, IsSaidExpressionFault, IsSaidOfText, IsSaidFaultOfText};
 
 use crate::cursor::Cursor;
 use crate::fault::ScenarioFault;
@@ -166,6 +167,10 @@ fn expression_of(alloc: Global, text: &str, tokens: &[Token]) -> Result<Expr, Sc
     ensures within { IfOk result (λ e. IsWellFormedExpression (expr_of e)) }
     ensures fault { IfErr result (λ e. e ≢ ScenarioFault.Memory
         → IsStopped IsExpressionText IsWellFormedExpression IsExpressionExcess (reading_of text.now tokens.now) e) }
+    // The same by the language as one value.
+    ensures said { IfOk result (λ e. IsSaidExpression (lexemes text.now tokens.now) (expr_of e)) }
+    ensures said_fault { IfErr result (λ e. e ≢ ScenarioFault.Memory
+        → IsSaidExpressionFault (reading_of text.now tokens.now) e) }
     ensures kind { IfErr result IsOfSentence }
 {
     let mut cursor = Cursor::new(text, tokens);
@@ -176,6 +181,10 @@ fn expression_of(alloc: Global, text: &str, tokens: &[Token]) -> Result<Expr, Sc
 fn expression_in(alloc: Global, text: &str) -> Result<Expr, ScenarioFault>
     ensures tree { IfOk result (λ e. IsExpressionOf text.now (expr_of e)) }
     ensures fault { IfErr result (λ e. e ≢ ScenarioFault.Memory → IsExpressionFault text.now e) }
+    // The same by the language as one value.
+    ensures said { IfOk result (λ e. IsSaidOfText IsSaidExpression text.now (expr_of e)) }
+    ensures said_fault { IfErr result (λ e. e ≢ ScenarioFault.Memory
+        → IsSaidFaultOfText IsSaidExpressionFault text.now e) }
     ensures kind { IfErr result IsOfSentence }
 {
     let tokens = lex(alloc, text)?;
@@ -192,6 +201,10 @@ pub fn parse_expr(alloc: Global, text: &str) -> Result<Expr, ParseFault>
     ensures tree { IfOk result (λ e. IsExpressionOf text.now (expr_of e)) }
     // What is refused has this fault.
     ensures fault { IfErr result (λ e. e ≢ ParseFault.Memory → IsExpressionFault text.now (from_sentence e)) }
+    // The same by the language as one value.
+    ensures said { IfOk result (λ e. IsSaidOfText IsSaidExpression text.now (expr_of e)) }
+    ensures said_fault { IfErr result (λ e. e ≢ ParseFault.Memory
+        → IsSaidFaultOfText IsSaidExpressionFault text.now (from_sentence e)) }
 {
     match expression_in(alloc, text) {
         Ok(expression) => Ok(expression),

@@ -12,6 +12,7 @@ ghost use Rattle.jc_parser.specs.ClosedScripts.{IsClosedAhead, HasNoScript, IsSc
 ghost use Rattle.jc_parser.specs.Sentences.{IsStopped};
 ghost use Rattle.jc_parser.specs.Symbols.{lexemes, symbols};
 ghost use Rattle.jc_parser.specs.Faults.{from_sentence, IsOfSentence};
+ghost use Rattle.jc_parser.specs.GrammarClaims.{IsSaidScript, IsSaidScriptFault, IsSaidOfText, IsSaidFaultOfText};
 
 use crate::cursor::Cursor;
 use crate::expressions::{Chain, expression, follow, root};
@@ -179,6 +180,10 @@ fn script_of(alloc: Global, text: &str, tokens: &[Token]) -> Result<Vec<Cmd>, Sc
     ensures within { IfOk result (λ s. IsScriptWellFormed (map cmd_of s.items)) }
     ensures fault { IfErr result (λ e. e ≢ ScenarioFault.Memory
         → IsStopped IsScriptSpelled IsScriptWellFormed IsScriptExcess (reading_of text.now tokens.now) e) }
+    // The same by the language as one value.
+    ensures said { IfOk result (λ s. IsSaidScript (lexemes text.now tokens.now) (map cmd_of s.items)) }
+    ensures said_fault { IfErr result (λ e. e ≢ ScenarioFault.Memory
+        → IsSaidScriptFault (reading_of text.now tokens.now) e) }
     ensures kind { IfErr result IsOfSentence }
 {
     let mut cursor = Cursor::new(text, tokens);
@@ -189,6 +194,10 @@ fn script_of(alloc: Global, text: &str, tokens: &[Token]) -> Result<Vec<Cmd>, Sc
 fn script_in(alloc: Global, text: &str) -> Result<Vec<Cmd>, ScenarioFault>
     ensures tree { IfOk result (λ s. IsScriptOf text.now (map cmd_of s.items)) }
     ensures fault { IfErr result (λ e. e ≢ ScenarioFault.Memory → IsScriptFault text.now e) }
+    // The same by the language as one value.
+    ensures said { IfOk result (λ s. IsSaidOfText IsSaidScript text.now (map cmd_of s.items)) }
+    ensures said_fault { IfErr result (λ e. e ≢ ScenarioFault.Memory
+        → IsSaidFaultOfText IsSaidScriptFault text.now e) }
     ensures kind { IfErr result IsOfSentence }
 {
     let tokens = lex(alloc, text)?;
@@ -205,6 +214,10 @@ pub fn parse_script(alloc: Global, text: &str) -> Result<Vec<Cmd>, ParseFault>
     ensures tree { IfOk result (λ s. IsScriptOf text.now (map cmd_of s.items)) }
     // What is refused has this fault.
     ensures fault { IfErr result (λ e. e ≢ ParseFault.Memory → IsScriptFault text.now (from_sentence e)) }
+    // The same by the language as one value.
+    ensures said { IfOk result (λ s. IsSaidOfText IsSaidScript text.now (map cmd_of s.items)) }
+    ensures said_fault { IfErr result (λ e. e ≢ ParseFault.Memory
+        → IsSaidFaultOfText IsSaidScriptFault text.now (from_sentence e)) }
 {
     match script_in(alloc, text) {
         Ok(script) => Ok(script),
