@@ -12,6 +12,7 @@ pub mod RefinesLemmas
 pub mod SendLemmas
 pub mod UndoStepsLemmas
 pub mod UndoLemmas
+pub mod OpListsLemmas
 pub mod ReceivedUnionLemmas
 pub mod ReceivedLemmas
 pub mod MayApplyLemmas

@@ -112,7 +112,7 @@ all_take P zero xs a = tt
 all_take P (suc n) [] a = tt
 all_take P (suc n) (x ∷ xs) a = (a.0, all_take P n xs a.1)
 
-take-drop : {X : Type 0} (n : ℕ) (xs : List X) → take n xs ++ drop n xs ≡ xs
+pub take-drop : {X : Type 0} (n : ℕ) (xs : List X) → take n xs ++ drop n xs ≡ xs
 take-drop zero xs = refl
 take-drop (suc n) [] = refl
 take-drop {X} (suc n) (x ∷ xs) = ap (λ (ys : List X). x ∷ ys) (take-drop n xs)

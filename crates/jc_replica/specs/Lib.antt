@@ -11,3 +11,4 @@ pub mod Variables
 pub mod Can
 pub mod Received
 pub mod MayApply
+pub mod OpLists

@@ -5,6 +5,7 @@ mod apply;
 mod can;
 mod exec;
 mod fault;
+mod op_list;
 mod operation;
 mod received;
 mod record;

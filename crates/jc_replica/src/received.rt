@@ -1,6 +1,6 @@
 //! The operations that a replica received, and how far those of each sender are complete.
 
-ghost use Rattle.std.specs.Prelude.{◌≡◌, ◌≤◌, ◌+◌, ◌∷◌, ℕ, List, [], Some, true, IfOk, OnOk, OnErr, option_copied, vec_len, vec_capacity, length, take, filter, unwrap_or};
+ghost use Rattle.std.specs.Prelude.{◌≡◌, ◌≤◌, ◌+◌, ◌∷◌, ℕ, List, [], Some, true, IfOk, OnOk, OnErr, option_copied, length, take, filter, unwrap_or};
 ghost use Rattle.std.specs.List.{AllByRecursion};
 ghost use Rattle.jc_rules.specs.declared.operation.Op.{Op as AnyOp};
 ghost use Rattle.jc_rules.specs.VersionVectors.{covered, greatest_of};
@@ -9,6 +9,7 @@ ghost use Rattle.jc_replica.specs.Operations.{identifiers, AreInOrder, AreHanded
 ghost use Rattle.jc_replica.specs.Undo.{without_ops};
 ghost use Rattle.jc_replica.specs.Received.{IsOpPlace, IsUnited, IsContiguousTo, AreAmong, HasEach, is_new};
 
+use crate::op_list::OpList;
 use jc_rules::{Id, IdSet, Op};
 use std::alloc::{AllocError, Global};
 use std::marker::Model;
@@ -19,7 +20,7 @@ use std::marker::Model;
 /// again, with more at its end, isn't read again.
 #[derive(Drop)]
 pub struct Received {
-    ops: Vec<Op>,
+    ops: OpList,
     /// Each sender's identifiers up to which no operation is missing.
     contiguous: IdSet,
 }
@@ -88,6 +89,14 @@ fn new_ones(alloc: Global, ops: &[Op], offered: &[Op]) -> Result<Vec<Op>, AllocE
     Ok(fresh)
 }
 
+/// The index at which the first of the new operations belongs, at the end where there is none.
+fn first_place(ops: &[Op], fresh: &[Op]) -> usize {
+    match fresh {
+        [first, ..] => ops.partition_point(|op| op.id < first.id),
+        [] => ops.len(),
+    }
+}
+
 /// The identifiers of the operations.
 fn ids_of(alloc: Global, ops: &[Op]) -> Result<Vec<Id>, AllocError>
     ensures { IfOk result (λ ids. ids.items ≡ identifiers ops.now) }
@@ -133,16 +142,16 @@ fn whole_to(ops: &[Op], read: &[Op], replica: u16, from: u64) -> u64
 }
 
 /// Inserts each operation at its place. None of them is in the list, and there is room for all.
-fn bring_in(ops: &mut Vec<Op>, fresh: Vec<Op>)
+fn bring_in(ops: &mut OpList, fresh: Vec<Op>)
     requires order { AreInOrder ops.old.items }
     requires rises { AreInOrder fresh.items }
     requires new { AllByRecursion (λ o. is_new ops.old.items o ≡ true) fresh.items }
-    requires room { vec_len ops.old + vec_len fresh ≤ vec_capacity ops.old }
+    requires room { length fresh.items ≤ ops.old.room }
     ensures { ops.new.items ≡ both ops.old.items fresh.items }
 {
     for op in fresh {
         let place = place_of(ops.as_slice(), op.id).unwrap_err();
-        ops.insert(place, op).unwrap();
+        ops.insert(place, op);
     }
 }
 
@@ -176,7 +185,7 @@ impl Received {
         ensures { result ≡ [] }
     {
         Received {
-            ops: Vec::new(alloc),
+            ops: OpList::new(alloc),
             contiguous: IdSet::new(alloc),
         }
     }
@@ -211,6 +220,8 @@ impl Received {
         let start = up_to(offered, last);
         let fresh = new_ones(alloc, self.ops.as_slice(), &offered[start..])?;
         let came = ids_of(alloc, fresh.as_slice())?;
+        let place = first_place(self.ops.as_slice(), fresh.as_slice());
+        self.ops.widen(alloc, place)?;
         self.ops.reserve(fresh.len())?;
         let counter = whole_to(self.ops.as_slice(), &offered[start..], sender, last);
         self.contiguous.insert(Id {
@@ -228,7 +239,8 @@ impl Received {
         let Ok(place) = place_of(self.ops.as_slice(), id) else {
             return;
         };
-        lower(&mut self.contiguous, &self.ops[place]);
+        let ops = self.ops.as_slice();
+        lower(&mut self.contiguous, &ops[place]);
         self.ops.remove(place);
     }
 

@@ -414,6 +414,8 @@ enum Deed {
     GoDeep,
     /// They take operations one at a time.
     Take,
+    /// The second one takes many of the first one's, in no order.
+    TakeMany,
 }
 
 /// Two new replicas with these scripts do this.
@@ -428,6 +430,7 @@ fn play_with(rt: &impl Abort, keys: &Keys, pair: &mut Pair, deed: Deed) -> Resul
         Deed::Meet => meet(rt, keys, pair, &mut kept),
         Deed::GoDeep => go_deep(rt, pair, &mut kept),
         Deed::Take => take_each(rt, pair, &mut kept),
+        Deed::TakeMany => take_many(rt, pair, &mut kept),
     }
 }
 
@@ -508,8 +511,90 @@ fn take_each(
     Ok(())
 }
 
+const THREE_A: Id = Id {
+    counter: 3,
+    replica: 0,
+};
+
+const FOUR_A: Id = Id {
+    counter: 4,
+    replica: 0,
+};
+
+const FIVE_A: Id = Id {
+    counter: 5,
+    replica: 0,
+};
+
+/// Replica 0 assigns five times.
+const FIVE_ASSIGNMENTS: [&str; 2] = [
+    "doc.get(\"a\") := 1; doc.get(\"a\") := 2; doc.get(\"a\") := 3; doc.get(\"a\") := 4; doc.get(\"a\") := 5; yield",
+    "yield",
+];
+
+const MANY_MADE: &[Taking] = &[
+    (Event::Exec(0), 0, &[]),
+    (Event::Exec(0), 0, &[]),
+    (Event::Exec(0), 0, &[]),
+    (Event::Exec(0), 0, &[]),
+    (Event::Exec(0), 0, &[]),
+    (Event::Send(0), 0, &[]),
+];
+
+/// Before all, behind all, and between others on either side.
+const MANY_TAKEN: &[Taking] = &[
+    (Event::Take(1, 0, FOUR_A), 0, &[FOUR_A]),
+    (Event::Take(1, 0, THREE_A), 0, &[THREE_A, FOUR_A]),
+    (Event::Take(1, 0, ONE_A), 0, &[ONE_A, THREE_A, FOUR_A]),
+    (
+        Event::Take(1, 0, TWO_A),
+        0,
+        &[ONE_A, TWO_A, THREE_A, FOUR_A],
+    ),
+    (
+        Event::Take(1, 0, FIVE_A),
+        0,
+        &[ONE_A, TWO_A, THREE_A, FOUR_A, FIVE_A],
+    ),
+    (
+        Event::Take(1, 0, TWO_A),
+        0,
+        &[ONE_A, TWO_A, THREE_A, FOUR_A, FIVE_A],
+    ),
+];
+
+/// Where going back has left no operation, others come as before.
+const MANY_AGAIN: &[Taking] = &[
+    (Event::Take(1, 0, TWO_A), 0, &[TWO_A]),
+    (Event::Take(1, 0, FIVE_A), 0, &[TWO_A, FIVE_A]),
+    (Event::Take(1, 0, ONE_A), 0, &[ONE_A, TWO_A, FIVE_A]),
+    (
+        Event::Recv(1, 0),
+        0,
+        &[ONE_A, TWO_A, THREE_A, FOUR_A, FIVE_A],
+    ),
+];
+
+/// The second replica takes operations in no order, goes back, and takes them in another one.
+fn take_many(
+    rt: &impl Abort,
+    pair: &mut Pair,
+    kept: &mut Vec<(u16, Seen, Seen)>,
+) -> Result<(), AllocError> {
+    pair.take(rt, MANY_MADE, kept)?;
+    kept.clear();
+    pair.a.begin();
+    pair.take(rt, MANY_TAKEN, kept)?;
+    pair.go_back(rt, kept.as_slice());
+    kept.clear();
+    pair.take(rt, MANY_AGAIN, kept)?;
+    pair.go_back(rt, kept.as_slice());
+    Ok(())
+}
+
 pub fn takings(rt: &impl Abort, keys: &Keys) -> Result<(), AllocError> {
-    play(rt, keys, &ASSIGNMENTS, Deed::Take)
+    play(rt, keys, &ASSIGNMENTS, Deed::Take)?;
+    play(rt, keys, &FIVE_ASSIGNMENTS, Deed::TakeMany)
 }
 
 /// A script whose 515th command leads to the deepest cursor; the one after it would lead deeper.

@@ -10,7 +10,7 @@ use Rattle.jc_replica.proofs.ReceivedUnionLemmas.{turn, belongs, belongs_there, 
 use Rattle.jc_replica.proofs.received.bring_in.Goals as goal
 
 in_order : (c : goal.After-place_of-arg-1) → AreInOrder c.as_slice.result.now
-in_order c = subst AreInOrder (sym (c.as_slice.ensures.value ∙ c.loop-op.invariant.united)) (both-in_order c.args.ops.now.items c.loop-op.yielded c.requires.order)
+in_order c = subst AreInOrder (sym (c.as_slice.ensures ∙ c.loop-op.invariant.united)) (both-in_order c.args.ops.now.items c.loop-op.yielded c.requires.order)
 
 pub place_of-requires : goal.place_of-requires
 place_of-requires c = in_order c
@@ -22,21 +22,20 @@ unwrap_err-place-requires c =
     let at = YieldsList-turn all c.loop-op.yielded c.loop-op.op-iterator c.loop-op.yielded_by c.next.result c.next.new.self c.in-Some.op c.in-Some.is c.next.ensures.steps in
     let so_far = YieldsList-so_far all c.loop-op.yielded c.loop-op.op-iterator c.loop-op.yielded_by in
     let t = turn c.args.ops.now.items c.args.fresh.items c.loop-op.yielded c.in-Some.op c.requires.rises c.requires.new so_far at in
-    let now : c.as_slice.result.now ≡ both c.args.ops.now.items c.loop-op.yielded = c.as_slice.ensures.value ∙ c.loop-op.invariant.united in
+    let now : c.as_slice.result.now ≡ both c.args.ops.now.items c.loop-op.yielded = c.as_slice.ensures ∙ c.loop-op.invariant.united in
     belongs c.in-Some.op.id (both c.args.ops.now.items c.loop-op.yielded) c.place_of.result t.absent (subst (λ (os : List Op). IsOpPlace c.in-Some.op.id os c.place_of.result) now c.place_of.ensures)
 
-pub insert-requires : goal.insert-requires
-insert-requires c =
-    let p = belongs_there c.in-Some.op.id c.loop-op.ops.items c.place_of.result c.unwrap_err-place.result (subst (λ (os : List Op). IsOpPlace c.in-Some.op.id os c.place_of.result) c.as_slice.ensures.value c.place_of.ensures) c.unwrap_err-place.ensures in
-    omega (arith, p.within, c.loop-op.ops.ok.0)
+pub insert-requires-clause-within : goal.insert-requires-clause-within
+insert-requires-clause-within c =
+    (belongs_there c.in-Some.op.id c.loop-op.ops.items c.place_of.result c.unwrap_err-place.result (subst (λ (os : List Op). IsOpPlace c.in-Some.op.id os c.place_of.result) c.as_slice.ensures c.place_of.ensures) c.unwrap_err-place.ensures).within
 
-pub unwrap-requires : goal.unwrap-requires
-unwrap-requires c =
+pub insert-requires-clause-room : goal.insert-requires-clause-room
+insert-requires-clause-room c =
     let gives = c.into_iter-op-iterator.ensures.into_iter_gives in
     let all = YieldsList-from_vec {s = c.into_iter-op-iterator.result} c.args.fresh.items gives.0 (gives.1 ∙ c.args.fresh.ok.0) in
     let at = YieldsList-turn all c.loop-op.yielded c.loop-op.op-iterator c.loop-op.yielded_by c.next.result c.next.new.self c.in-Some.op c.in-Some.is c.next.ensures.steps in
     let l = at.0 in
-    c.insert.ensures.succeeds (omega (arith, c.loop-op.invariant.room, l, c.args.fresh.ok.0))
+    omega (arith, c.loop-op.invariant.room, l, c.args.fresh.ok.0)
 
 pub loop-op-preserved : goal.loop-op-preserved
 loop-op-preserved c =
@@ -45,11 +44,10 @@ loop-op-preserved c =
     let at = YieldsList-turn all c.loop-op.yielded c.loop-op.op-iterator c.loop-op.yielded_by c.next.result c.next.new.self c.in-Some.op c.in-Some.is c.next.ensures.steps in
     let so_far = YieldsList-so_far all c.loop-op.yielded c.loop-op.op-iterator c.loop-op.yielded_by in
     let t = turn c.args.ops.now.items c.args.fresh.items c.loop-op.yielded c.in-Some.op c.requires.rises c.requires.new so_far at in
-    let p = belongs_there c.in-Some.op.id c.loop-op.ops.items c.place_of.result c.unwrap_err-place.result (subst (λ (os : List Op). IsOpPlace c.in-Some.op.id os c.place_of.result) c.as_slice.ensures.value c.place_of.ensures) c.unwrap_err-place.ensures in
-    let came : c.insert.new.self.items ≡ _ = rw c.unwrap.ensures at c.insert.ensures.items in
+    let p = belongs_there c.in-Some.op.id c.loop-op.ops.items c.place_of.result c.unwrap_err-place.result (subst (λ (os : List Op). IsOpPlace c.in-Some.op.id os c.place_of.result) c.as_slice.ensures c.place_of.ensures) c.unwrap_err-place.ensures in
     record {
-      united = came ∙ sym (p.place c.in-Some.op refl) ∙ ap (with_op c.in-Some.op) c.loop-op.invariant.united ∙ sym (both-last c.args.ops.now.items c.loop-op.yielded c.in-Some.op t.later);
-      room = (let longer = rw c.unwrap.ensures at c.insert.ensures.len in omega (arith, c.loop-op.invariant.room, longer, c.insert.ensures.capacity, length-append c.loop-op.yielded (c.in-Some.op ∷ [])));
+      united = c.insert.ensures.items ∙ sym (p.place c.in-Some.op refl) ∙ ap (with_op c.in-Some.op) c.loop-op.invariant.united ∙ sym (both-last c.args.ops.now.items c.loop-op.yielded c.in-Some.op t.later);
+      room = omega (arith, c.loop-op.invariant.room, c.insert.ensures.room, length-append c.loop-op.yielded (c.in-Some.op ∷ []));
     }
 
 pub returns : goal.returns
