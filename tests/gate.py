@@ -20,7 +20,10 @@ from statements import Source, Theory, sum_of
 TRYING = """#!/bin/sh
 case $1 in
     version) cat "${0%/*}/kit" ;;
-    check) [ ! -e unproved ] ;;
+    check)
+        [ ! -e unproved ] || exit 1
+        [ ! -e "${0%/*}/checking" ] || . "${0%/*}/checking"
+        ;;
     must-fail)
         shift
         if [ "$1" = --anew ]; then
@@ -92,8 +95,9 @@ def expect_end(folder, words, status, output="", told=""):
 def crates():
     """A folder with three crates, each on the one before, that have edits, and with the script."""
     with folder_of({"rt": TRYING, "dev/more-edits": stored("dev/more-edits")}) as folder:
-        for path in ("dev/statements.py", "dev/dependencies.py", "tools/crates.py", "python/jsoncrdt/__init__.py",
-                     "python/jsoncrdt/choosing.py", "oracle/__init__.py", "oracle/streams.py"):
+        for path in ("dev/statements.py", "dev/dependencies.py", "dev/together.py", "tools/crates.py",
+                     "python/jsoncrdt/__init__.py", "python/jsoncrdt/choosing.py", "oracle/__init__.py",
+                     "oracle/streams.py"):
             write(folder, path, stored(path))
         for path, text in FILES.items():
             write(folder, path, text)
@@ -730,11 +734,16 @@ def has_portions(_):
         expect_same([len(line[3:]) for line in lines], [1] * 4)
         expect({line[1] for line in lines} == {"1"} and max(line[2] for line in lines) == "2", f"{lines}")
         expect_end(folder, ["--check"], 0)
-        for _ in range(100):
-            if os.listdir(f"{folder}/room") == ["kept"]:
-                break
-            time.sleep(0.1)
-        expect_same(os.listdir(f"{folder}/room"), ["kept"])
+        expect_left(f"{folder}/room", ["kept"])
+
+
+def expect_left(folder, names):
+    """In a folder there is only this soon."""
+    for _ in range(100):
+        if os.listdir(folder) == names:
+            break
+        time.sleep(0.1)
+    expect_same(os.listdir(folder), names)
 
 
 # Interrupts the script where one is tried.

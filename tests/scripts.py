@@ -4,6 +4,7 @@ import os
 import subprocess
 
 from cases import expect, folder_of
+from edits_together import edits_together
 from gate import gate
 
 # A command rt for the launcher, which only tells its arguments, the files of a folder of cases, and its input.
@@ -70,3 +71,4 @@ def launcher():
 def scripts():
     yield from launcher()
     yield from gate()
+    yield from edits_together()
