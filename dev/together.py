@@ -2,6 +2,7 @@
 a check only shows that an edit is refused; whatever else it tells of one says nothing, and asks for a try of that edit
 alone. docs/WORKING.md, "Edits", says why that is enough."""
 
+import collections
 import os
 import re
 
@@ -19,6 +20,7 @@ UNREAD = re.compile(r"^(?:\./)?(?:src|specs)/\S+?:\d+:\d+: error: (?:(?!`[^`]*`:
 # Why a function isn't proved, with the file and the line.
 REASON = re.compile(r"^(?:(?:\./)?(?P<error>\S+?):(?P<at>\d+):\d+: error|"
                     r"note: (?:\./)?(?P<note>\S+?):(?P<line>\d+):\d+:).*$", re.MULTILINE)
+Reason = collections.namedtuple("Reason", "told file line")
 # Such a reason by which rt tells that a proof names what isn't there any more, which shows nothing.
 NAMES_GONE = re.compile(r"(?:note: )?(?:\./)?proofs/.*(?:has no field|is not in scope|has no `|was not admitted)")
 
@@ -36,14 +38,10 @@ class Changed:
         self.proof = re.compile(rf"proofs/(?:{at}\+?{function}|(?:\w+/)*\+{cycle})/[^/]+")
         self.path, self.lines = path, lines_around(text, old)
 
-    def reason(self, told):
-        """The first reason of its own for which it isn't proved."""
-        found = REASON.finditer(told) if self.told.search(told) else ()
-        return next((each[0] for each in found if self.is_own(each) and not NAMES_GONE.match(each[0])), None)
-
-    def is_own(self, reason):
-        file, line = reason["error"] or reason["note"], int(reason["at"] or reason["line"])
-        return bool(self.proof.fullmatch(file)) or file == self.path and line in self.lines
+    def own(self, reasons):
+        """Those of these reasons that are the function's own."""
+        return [reason for reason in reasons if self.proof.fullmatch(reason.file) or
+                reason.file == self.path and reason.line in self.lines]
 
 
 def lines_around(text, old):
@@ -106,13 +104,20 @@ def apply(tree, name, edits, folder):
 
 
 def refused(tree, name, edits, told, status):
-    """Those of these edits that a check refuses, each with a reason, by what it told and how it ended."""
+    """Those of these edits that a check refuses, each with a reason, by what it told and how it ended. None where a proof
+    isn't read that is of no function that they change: others may stand on it."""
     if status != 1 or not ENDED.search(told) or UNREAD.search(told):
         return {}
-    found = {}
+    reasons = [Reason(each[0], each["error"] or each["note"], int(each["at"] or each["line"]))
+               for each in REASON.finditer(told)]
+    found, known = {}, set()
     for edit in edits:
         pairs = pairs_in(tree, name, edit)
         for (path, item), (_, old, _) in zip(tree.functions(name, pairs), pairs):
-            if reason := Changed(name, path, tree.texts(name)[path], item, old).reason(told):
-                found.setdefault(edit, reason)
-    return found
+            changed = Changed(name, path, tree.texts(name)[path], item, old)
+            own = changed.own(reasons)
+            known.update(own)
+            if own and changed.told.search(told) and not any(NAMES_GONE.match(reason.told) for reason in own):
+                found.setdefault(edit, own[0].told)
+    is_known = all(reason in known for reason in reasons if reason.file.startswith("proofs/"))
+    return found if is_known else {}

@@ -44,9 +44,11 @@ TOLD = {
     "without a reason": NOT_PROVED,
     "waits": OWN + "fn jc_b::NAME: not proved; it waits for the proof of `two`\n",
     "gone": "./proofs/NAME/Answers.antt:1:9: error: `lemma` is not in scope\n" + NOT_PROVED,
-    "for another": (OWN.replace("NAME", "NAME/more") + OWN.replace("NAME", "other") + NOT_PROVED +
-                    "src/lib.rt:12:1: error: `two`: no\nnote: src/lib.rt:6:1: no\nnote: src/more.rt:8:1: no\n"
-                    "note: a goal may be false\n"),
+    "gone too": "./proofs/NAME/Answers.antt:1:9: error: `a` has no field `b`\n" + OWN + NOT_PROVED,
+    "for another": ("src/lib.rt:12:1: error: `two`: no\nnote: src/lib.rt:6:1: no\nnote: src/more.rt:8:1: no\n"
+                    "note: a goal may be false\n" + NOT_PROVED),
+    "a lemma": OWN + OWN.replace("NAME/Answers", "Lemmas") + NOT_PROVED,
+    "another's proof": OWN + OWN.replace("NAME", "NAME/more") + NOT_PROVED,
     "another": OWN + "fn jc_b::more::NAME: not proved\nfn jc_b::NAME2: not proved\nfn jc_a::NAME: not proved\n",
     "unread": "src/lib.rt:4:5: error: it can't be read\n" + OWN + NOT_PROVED,
     "out of scope": "./src/lib.rt:4:5: error: `goal`: `it` is not in scope\n" + OWN + NOT_PROVED,
@@ -90,7 +92,7 @@ CASES = (
     ("methods", {"a": edit("six", "a method", "more"), "b": edit("seven", "of a trait", "more"),
                  "c": edit("eight", "in its file", "more")}, ["six seven eight"], []),
     ("a method told as a function", {"a": edit("two", "refused"), "b": edit("six", "refused", "more")},
-     ["two six"], ["b"]),
+     ["two six"], ["a", "b"]),
     ("one function twice", {"a": edit("one", "refused"), "b": edit("one", "noted"), "c": edit("two", "refused")},
      ["one two"], ["b"]),
     ("two functions of one name", {"a": edit("one", "refused"), "b": edit("one", "a method", "more")}, [], ["a", "b"]),
@@ -105,9 +107,9 @@ CASES = (
                                            "c": edit("three", "refused")}, ["one three"], ["b"]),
     ("more than one check tries", {name: edit(name, "refused") for name in MANY}, [" ".join(MANY[:-1])], MANY[-1:]),
     *((how, pair(how), ["one two"], ["b"])
-      for how in ("proved", "untold", "without a reason", "waits", "gone", "for another", "another")),
+      for how in ("proved", "untold", "without a reason", "waits", "gone", "gone too", "for another", "another")),
     *((how, pair(how), ["one two"], ["a", "b"])
-      for how in ("unread", "out of scope", "stale", "uncompiled", "at a limit")),
+      for how in ("a lemma", "another's proof", "unread", "out of scope", "stale", "uncompiled", "at a limit")),
 )
 
 
