@@ -8,12 +8,12 @@ from cases import expect
 from gate import RECORD, called, crates, expect_left, more_edits, read, write
 from together import MOST
 
-FUNCTION = "{}pub fn {} -> u8\n    ensures {{ result ≡ the_{} }}\n{{\n    right_{}\n}}\n"
+FUNCTION = "{}pub fn {} -> u8\n    ensures {{ result ≡ the_{} }}\n{{\n    begin_{}();\n    right_{}\n}}\n"
 CYCLE = "#[cycle(around)]\n"
 
 
 def function(name, before="", given="()"):
-    return FUNCTION.format(before, name + given, name, name)
+    return FUNCTION.format(before, name + given, *[name] * 3)
 
 
 def of_impl(head, *names):
@@ -45,7 +45,7 @@ TOLD = {
     "waits": OWN + "fn jc_b::NAME: not proved; it waits for the proof of `two`\n",
     "gone": "./proofs/NAME/Answers.antt:1:9: error: `lemma` is not in scope\n" + NOT_PROVED,
     "gone too": "./proofs/NAME/Answers.antt:1:9: error: `a` has no field `b`\n" + OWN + NOT_PROVED,
-    "for another": ("src/lib.rt:12:1: error: `two`: no\nnote: src/lib.rt:6:1: no\nnote: src/more.rt:8:1: no\n"
+    "for another": ("src/lib.rt:14:1: error: `two`: no\nnote: src/lib.rt:7:1: no\nnote: src/more.rt:8:1: no\n"
                     "note: a goal may be false\n" + NOT_PROVED),
     "a lemma": OWN + OWN.replace("NAME/Answers", "Lemmas") + NOT_PROVED,
     "another's proof": OWN + OWN.replace("NAME", "NAME/more") + NOT_PROVED,
@@ -55,6 +55,7 @@ TOLD = {
     "stale": "module `Rattle-jc_a-x` isn't there. Run the lower steps again\n" + OWN + NOT_PROVED,
     "uncompiled": OWN + NOT_PROVED,
     "at a limit": OWN + NOT_PROVED,
+    "of another status": OWN + NOT_PROVED + "logic=not-proved\n",
     "interrupted": "",
 }
 # So it ends, and in the file `checked` it notes which functions are wrong.
@@ -65,7 +66,7 @@ echo $(echo "$wrong" | cut -d" " -f1) >>"$at/checked"
 echo "$wrong" | while read -r name how; do sed "s/NAME/$name/" "$at/told/$how"; done
 case $wrong in
     *interrupted) kill -INT "$PPID"; exec sleep 10 ;;
-    *"at a limit"*) exit 3 ;;
+    *"at a limit"* | *"of another status"*) exit 3 ;;
     *uncompiled*) echo "error[E0308]: mismatched types" ;;
     *) printf 'crate jc_b: modules loaded=9\nlogic=not-proved\nrt: rt lemma WORD.. finds a lemma\n' ;;
 esac
@@ -93,8 +94,8 @@ CASES = (
                  "c": edit("eight", "in its file", "more")}, ["six seven eight"], []),
     ("a method told as a function", {"a": edit("two", "refused"), "b": edit("six", "refused", "more")},
      ["two six"], ["a", "b"]),
-    ("one function twice", {"a": edit("one", "refused"), "b": edit("one", "noted"), "c": edit("two", "refused")},
-     ["one two"], ["b"]),
+    ("one function twice", {"a": edit("two", "refused"), "b": edit("one", "refused"),
+                            "c": edit("one", "refused").replace("right", "begin")}, ["one two"], ["c"]),
     ("two functions of one name", {"a": edit("one", "refused"), "b": edit("one", "a method", "more")}, [], ["a", "b"]),
     ("two of a cycle", {"a": edit("four", "refused"), "b": edit("five", "refused")}, [], ["a", "b"]),
     ("more than bodies", {**pair("refused"), "c": edit("ten", "refused"),
@@ -109,7 +110,8 @@ CASES = (
     *((how, pair(how), ["one two"], ["b"])
       for how in ("proved", "untold", "without a reason", "waits", "gone", "gone too", "for another", "another")),
     *((how, pair(how), ["one two"], ["a", "b"])
-      for how in ("a lemma", "another's proof", "unread", "out of scope", "stale", "uncompiled", "at a limit")),
+      for how in ("a lemma", "another's proof", "unread", "out of scope", "stale", "uncompiled", "at a limit",
+                  "of another status")),
 )
 
 
