@@ -34,6 +34,7 @@ NOT_PROVED = "fn jc_b::NAME: not proved\n"
 TOLD = {
     "refused": OWN + NOT_PROVED,
     "noted": "note: src/lib.rt:4:5: it isn't proved that what the function ensures holds\n" + NOT_PROVED,
+    "with advice": OWN + "note: ./proofs/Lemmas.antt:1:1: it can be shorter\n" + NOT_PROVED,
     "with itself": OWN.replace("NAME", "+NAME") + NOT_PROVED,
     "with its cycle": OWN.replace("NAME", "Thing/+around") + NOT_PROVED,
     "a method": OWN.replace("NAME", "of/Thing/NAME") + "fn jc_b::of::Thing::NAME: not proved\n",
@@ -88,6 +89,7 @@ def pair(how):
 CASES = (
     ("two functions", pair("refused"), ["one two"], []),
     ("a reason in the source", {"a": edit("one", "noted"), "b": edit("two", "refused")}, ["one two"], []),
+    ("advice on another proof", pair("with advice"), ["one two"], []),
     ("a function that calls itself", pair("with itself"), ["one two"], []),
     ("a function of a cycle", {"a": edit("one", "refused"), "b": edit("five", "with its cycle")}, ["one five"], []),
     ("methods", {"a": edit("six", "a method", "more"), "b": edit("seven", "of a trait", "more"),
