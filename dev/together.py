@@ -104,8 +104,8 @@ def apply(tree, name, edits, folder):
 
 
 def refused(tree, name, edits, told, status):
-    """Those of these edits that a check refuses, each with a reason, by what it told and how it ended. None where a proof
-    isn't read that is of no function that they change: others may stand on it."""
+    """Those of these edits that a check refuses, each with a reason, by what it told and how it ended. None where a
+    proof fails that is of no function that they change: others may stand on it."""
     if status != 1 or not ENDED.search(told) or UNREAD.search(told):
         return {}
     reasons = [Reason(each[0], each["error"] or each["note"], int(each["at"] or each["line"]))
@@ -119,5 +119,5 @@ def refused(tree, name, edits, told, status):
             known.update(own)
             if own and changed.told.search(told) and not any(NAMES_GONE.match(reason.told) for reason in own):
                 found.setdefault(edit, own[0].told)
-    failed = {reason for reason in reasons if reason.file.startswith("proofs/") and not reason.told.startswith("note: ")}
+    failed = {reason for reason in reasons if re.match(r"(?:\./)?proofs/", reason.told)}
     return found if failed <= known else {}
