@@ -1,6 +1,7 @@
-"""Edits of one crate that are tried in one check: each changes bodies of functions that no other of them changes. Such
-a check only shows that an edit is refused; whatever else it tells of one says nothing, and asks for a try of that edit
-alone. docs/WORKING.md, "Edits", says why that is enough."""
+"""Edits of one crate that are tried in one check: each changes bodies of functions that no other of them changes. None
+of these calls another, since a function's goals wait for the proofs of those that it calls. Such a check only shows
+that an edit is refused; whatever else it tells of one says nothing, and asks for a try of that edit alone.
+docs/WORKING.md, "Edits", says why that is enough."""
 
 import collections
 import os
@@ -21,6 +22,8 @@ UNREAD = re.compile(r"^(?:\./)?(?:src|specs)/\S+?:\d+:\d+: error: (?:(?!`[^`]*`:
 REASON = re.compile(r"^(?:(?:\./)?(?P<error>\S+?):(?P<at>\d+):\d+: error|"
                     r"note: (?:\./)?(?P<note>\S+?):(?P<line>\d+):\d+:).*$", re.MULTILINE)
 Reason = collections.namedtuple("Reason", "told file line")
+# How a function is told of whose goals were tried, without and with answers that it may keep to, and not all proved.
+REFUSED = r"(?:not proved|no proof: expected answers in \S+; `search` did not prove `[^`]*`(?:(?:,| and) `[^`]*`)*)"
 # Such a reason by which rt tells that a proof names what isn't there any more, which shows nothing.
 NAMES_GONE = re.compile(r"(?:note: )?(?:\./)?proofs/.*(?:has no field|is not in scope|has no `|was not admitted)")
 
@@ -33,7 +36,7 @@ class Changed:
         module = path.removeprefix("src/").removesuffix(".rt")
         # A method is told of, and proved, in the module of its type, which may be that of another file.
         at = rf"(?:\w+/)*{of}\w*/" if of is not None else f"{module}/" if module != "lib" else ""
-        self.told = re.compile(rf"^fn {name}::{at.replace('/', '::')}{function}: not proved$", re.MULTILINE)
+        self.told = re.compile(rf"^fn {name}::{at.replace('/', '::')}{function}: {REFUSED}$", re.MULTILINE)
         # Functions of a cycle are proved together, in a folder of one's module or type.
         self.proof = re.compile(rf"proofs/(?:{at}\+?{function}|(?:\w+/)*\+{cycle})/[^/]+")
         self.path, self.lines = path, lines_around(text, old)
@@ -63,19 +66,53 @@ def names_held(tree, name, edit):
             for _, each in tree.proved_together(name, path, item)}
 
 
+def called_by(tree, name):
+    """The names of the crate's functions, each with those that it can call, also by way of others, by their names."""
+    named = collections.defaultdict(set)
+    for file in tree.files(name).values():
+        for item in file.items:
+            if item.place:
+                named[item.place[1]] |= item.all_mentions
+    named = {function: names & named.keys() for function, names in named.items()}
+    called = {}
+    for function in named:
+        open_ones, called[function] = [function], set()
+        while open_ones:
+            more = named[open_ones.pop()] - called[function]
+            called[function] |= more
+            open_ones += more
+    return called
+
+
+class Group:
+    """Edits for one check: the functions that they change, by their names, and those that these can call."""
+
+    def __init__(self):
+        self.edits, self.held, self.called = [], set(), set()
+
+    def fits(self, held, called):
+        """Whether these functions are others, none of which calls one of the group's or is called by one."""
+        return (len(self.edits) < MOST and self.held.isdisjoint(held) and self.held.isdisjoint(called)
+                and self.called.isdisjoint(held))
+
+    def add(self, edit, held, called):
+        self.edits.append(edit)
+        self.held |= held
+        self.called |= called
+
+
 def groups_of(tree, name, edits):
     """These edits in groups of two at least, each for one check, and those that are to be tried alone."""
-    groups = []
-    for edit in edits:
-        held = names_held(tree, name, edit)
-        fits = (group for group in groups if held and len(group[0]) < MOST and group[1].isdisjoint(held))
-        group = next(fits, None)
-        if group:
-            group[0].append(edit)
-            group[1].update(held)
-        elif held:
-            groups.append(([edit], held))
-    groups = [group for group, _ in groups if len(group) > 1]
+    groups, called = [], called_by(tree, name)
+    held = {edit: names for edit in edits if (names := names_held(tree, name, edit))}
+    below = {edit: set().union(*(called[function] for function in names)) for edit, names in held.items()}
+    # Those that call least come first, so that functions of one height come together.
+    for edit in sorted(held, key=lambda edit: len(below[edit])):
+        group = next((group for group in groups if group.fits(held[edit], below[edit])), None)
+        if not group:
+            groups.append(group := Group())
+        group.add(edit, held[edit], below[edit])
+    groups = [group.edits for group in groups if len(group.edits) > 1]
     return groups, [edit for edit in edits if not any(edit in group for group in groups)]
 
 

@@ -8,12 +8,12 @@ from cases import expect
 from gate import RECORD, called, crates, expect_left, more_edits, read, write
 from together import MOST
 
-FUNCTION = "{}pub fn {} -> u8\n    ensures {{ result ≡ the_{} }}\n{{\n    begin_{}();\n    right_{}\n}}\n"
+FUNCTION = "{}pub fn {} -> u8\n    ensures {{ result ≡ the_{} }}\n{{\n    begin_{}();\n    right_{}\n{}}}\n"
 CYCLE = "#[cycle(around)]\n"
 
 
-def function(name, before="", given="()"):
-    return FUNCTION.format(before, name + given, *[name] * 3)
+def function(name, before="", given="()", more=""):
+    return FUNCTION.format(before, name + given, *[name] * 3, more)
 
 
 def of_impl(head, *names):
@@ -24,7 +24,9 @@ def of_impl(head, *names):
 MANY = [f"many{number:02}" for number in range(MOST + 1)]
 SOURCES = {
     "lib": "\n".join([function("one"), function("two"), function("three"), function("four", CYCLE),
-                      function("five", CYCLE), *map(function, MANY), "pub const TEN: u8 = right_ten;\n"]),
+                      function("five", CYCLE), function("over", more="    one();\n"),
+                      function("above", more="    over();\n"), *map(function, MANY),
+                      "pub const TEN: u8 = right_ten;\n"]),
     "more": "\n".join([of_impl("impl Thing", "six", "one"), of_impl("impl Shown for Thing", "seven"),
                        function("eight")]),
 }
@@ -40,6 +42,11 @@ TOLD = {
     "a method": OWN.replace("NAME", "of/Thing/NAME") + "fn jc_b::of::Thing::NAME: not proved\n",
     "of a trait": OWN.replace("NAME", "of/ThingShown/NAME") + "fn jc_b::of::ThingShown::NAME: not proved\n",
     "in its file": OWN.replace("NAME", "more/NAME") + "fn jc_b::more::NAME: not proved\n",
+    "without answers": ("note: src/lib.rt:4:5: it isn't proved that what the function ensures holds\n"
+                        "fn jc_b::NAME: no proof: expected answers in ./proofs/NAME/Answers.antt; `search` did not "
+                        "prove `returns`\n"),
+    "not tried": (OWN + "fn jc_b::NAME: not proved; it calls `jc_b::two`, which is not proved\n"),
+    "no proof": (OWN + "fn jc_b::NAME: no proof: it calls `jc_b::two`, which is not proved\n"),
     "proved": "fn jc_b::NAME: proved\n",
     "untold": OWN,
     "without a reason": NOT_PROVED,
@@ -89,6 +96,10 @@ def pair(how):
 CASES = (
     ("two functions", pair("refused"), ["one two"], []),
     ("a reason in the source", {"a": edit("one", "noted"), "b": edit("two", "refused")}, ["one two"], []),
+    ("a reason without answers", {"a": edit("one", "without answers"), "b": edit("two", "refused")}, ["one two"], []),
+    ("a function and its caller", {"a": edit("over", "refused"), "b": edit("one", "refused")}, [], ["a", "b"]),
+    ("a caller of callers", {"a": edit("above", "refused"), "b": edit("one", "refused"), "c": edit("two", "refused")},
+     ["one two"], ["a"]),
     ("advice on another proof", pair("with advice"), ["one two"], []),
     ("a function that calls itself", pair("with itself"), ["one two"], []),
     ("a function of a cycle", {"a": edit("one", "refused"), "b": edit("five", "with its cycle")}, ["one five"], []),
@@ -110,7 +121,8 @@ CASES = (
                                            "c": edit("three", "refused")}, ["one three"], ["b"]),
     ("more than one check tries", {name: edit(name, "refused") for name in MANY}, [" ".join(MANY[:-1])], MANY[-1:]),
     *((how, pair(how), ["one two"], ["b"])
-      for how in ("proved", "untold", "without a reason", "waits", "gone", "gone too", "for another", "another")),
+      for how in ("proved", "untold", "without a reason", "waits", "not tried", "no proof", "gone", "gone too",
+                  "for another", "another")),
     *((how, pair(how), ["one two"], ["a", "b"])
       for how in ("a lemma", "another's proof", "unread", "out of scope", "stale", "uncompiled", "at a limit",
                   "of another status")),
