@@ -462,6 +462,9 @@ def candidates(network, p):
 
 
 def is_enabled(network, event):
+    # To see that an operation was applied before needs no copy of the document. Of these there are the most.
+    if event[0] == "apply" and event[2] in network[event[1]].applied:
+        return False
     try:
         step(network, event)
         return True

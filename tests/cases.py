@@ -8,8 +8,10 @@ import tempfile
 from crates import BUILT, lack_of_built
 
 IN_PYTHON = os.path.join("oracle", "jsoncrdt")
-# How the line begins by which the launcher says who answers in place of the program, and that of the rules in Python.
-UNPROVED = "jsoncrdt: the rules in Python answer, unproved: "
+# What stands in the line by which the launcher or a tool says who answers in place of the program; how that of the
+# launcher begins, and that of the rules in Python.
+ANSWER = ": the rules in Python answer, unproved: "
+UNPROVED = f"jsoncrdt{ANSWER}"
 IN_PYTHON_SAYS = "oracle/jsoncrdt: these are the rules in Python"
 # Stands in the environment of what a test runs. There ./test runs no tests, which else might go on without end.
 IN_TEST = "JSONCRDT_IN_TEST"
@@ -48,7 +50,7 @@ def run(words, program, text="", shell=False, path=None):
 def told_errors(ended):
     """What a command told on standard error, but for the line that says that the rules in Python answer."""
     lines = ended.stderr.decode(errors="replace").splitlines(keepends=True)
-    return "".join(line for line in lines if not line.startswith((UNPROVED, IN_PYTHON_SAYS)))
+    return "".join(line for line in lines if ANSWER not in line and not line.startswith(IN_PYTHON_SAYS))
 
 
 def place(path, text):

@@ -4,7 +4,7 @@ import collections
 import json
 import os
 
-from cases import IN_PYTHON, expect, expect_same, folder_of, run, told_errors
+from cases import IN_PYTHON, expect, expect_same, folder_of, run, stored, told_errors
 
 # Two replicas with a command each and no yield: nobody hears of the other, in whatever order they act.
 APART = 'jsoncrdt 1 replica p { doc.get("k") := "A" } replica q { doc.get("k") := "B" } schedule {}'
@@ -100,12 +100,26 @@ def are_three(programs):
         expect((rows[values]["seed"], rows[values]["documents"]) == (seed, documents), f"{values}: {output}")
 
 
+# Programs that aren't the rules in Python: one that notes what it is asked, and one that has no serve yet.
+FOUR_SEEDS = "--seeds 4 examples/to-do.jsoncrdt"
+ORACLE = f'exec "{os.path.abspath(IN_PYTHON)}" "$@"\n'
+PROGRAMS = {"served": f'#!/bin/sh\necho "$1" >>"$0.log"\n{ORACLE}',
+            "older": f'#!/bin/sh\n[ "$1" = serve ] && exit 2\n{ORACLE}'}
+
+
 def asks_the_program(programs):
-    """A program that isn't the rules in Python, and is asked by processes, gives the same."""
-    with folder_of({"program": f'#!/bin/sh\nexec {os.path.abspath(IN_PYTHON)} "$@"\n'}) as folder:
-        beside = explored(programs, f"--seeds 4 {THREE}", program=os.path.join(folder, "program"))
-        expect_same(beside[1], explored(programs, f"--seeds 4 {THREE}", program=IN_PYTHON)[1])
-        expect(beside[0] == 0 and beside[1].startswith("4 seeds, "), f"{beside}")
+    """A program is asked by one process of its serve, behind the one that finds out whether it has it. Where it hasn't,
+    that is said. All give the same."""
+    wanted = explored(programs, FOUR_SEEDS, program=IN_PYTHON)
+    expect(wanted[0] == 0 and wanted[1].startswith("4 seeds, "), f"{wanted}")
+    with folder_of(PROGRAMS) as folder:
+        served, older = (os.path.join(folder, name) for name in PROGRAMS)
+        expect_same(str(explored(programs, FOUR_SEEDS, program=served)), str(wanted))
+        expect_same(stored(f"{served}.log"), "serve\nserve\n")
+        expect_same(str(explored(programs, FOUR_SEEDS, program=older)), str(wanted))
+        told = run(f"tools/explore {FOUR_SEEDS}", older, shell=True).stderr.decode()
+        said = f"explore: the rules in Python answer, unproved: {older} has no serve\n"
+        expect_same(told, said + wanted[2])
 
 
 def exploring():

@@ -1,5 +1,6 @@
 """The package: scenarios from Python and typed answers, installing it, its strategies, and the example suite."""
 
+import concurrent.futures
 import functools
 import json
 import os
@@ -12,7 +13,7 @@ from decimal import Decimal
 from cases import IN_PYTHON, NotTried, expect, expect_same, folder_of, stored
 from jsoncrdt import ABSENT, Conflict, Identifier, NoAnswer, Place, Program, Refused, Rules, Scenario, Stuck, doc
 from jsoncrdt import check, journal, run, view, weave
-from jsoncrdt.machines import served_by
+from jsoncrdt.machines import pool_of
 from jsoncrdt.oracle.engine import FAULTS
 from jsoncrdt.serving import Lost, Process
 from judging import made
@@ -386,13 +387,27 @@ def asks_one_process(_):
     text = kit_file(KIT[0], "scenario.jsoncrdt")
     # A path of its own, so that no other test asks the same process.
     machine = Program(os.path.join(os.path.abspath("oracle"), os.curdir, "jsoncrdt"))
-    found, process = view(text, by=machine), served_by(machine.path)
+    found, [process] = view(text, by=machine), pool_of(machine.path).idle
     first = process.process.pid
     expect(view(text, by=Program(machine.path)) == found and process.process.pid == first, "it was started twice")
     process.process.kill()
     process.process.wait()
     expect(view(text, by=machine) == found and process.process.pid != first, "it wasn't started anew")
     expect(journal(text, effects=True, by=machine) == journal(text, effects=True, by=RULES), "effects")
+    expect(pool_of(machine.path).idle == [process], "there are several")
+
+
+def asks_side_by_side(_):
+    """Threads that ask at once have a process each, which others have behind them."""
+    texts = [kit_file(name, "scenario.jsoncrdt") for name in ("both-append", "late-joiner", "figure-to-do")] * 4
+    machine = Program(os.path.join(os.path.abspath("oracle"), os.pardir, IN_PYTHON))
+    pool, wanted = pool_of(machine.path), [view(text, by=RULES) for text in texts]
+    with pool.one() as one, pool.one() as other:
+        expect(one is not other and not pool.idle, "two have one process")
+        expect(view(texts[0], by=machine) == wanted[0] and len(pool.idle) == 1, "a third one has none")
+    with concurrent.futures.ThreadPoolExecutor(3) as threads:
+        found = list(threads.map(functools.partial(view, by=machine), texts))
+    expect(found == wanted and len(pool.idle) == len({*pool.idle}) == 3, f"{len(pool.idle)} {found}")
 
 
 HANGING = ('#!/bin/sh\nread line\n[ "$line" = quit ] && { echo \'{"quit":true}\'; exit; }\n'
@@ -567,8 +582,8 @@ def package():
     yield kit_case("the built program", KIT, None)
     for tried in (texts_come_back, refusals_are_typed, parts_are_refused, stuck_ones_are_typed, scenarios_are_written,
                   stuck_calls_change_nothing, ends_are_typed, effects_are_typed, effects_are_of_the_rules,
-                  asks_call_by_call, asks_one_process, loses_no_time, answers_are_lacking, is_installed,
-                  is_imported_at_once):
+                  asks_call_by_call, asks_one_process, asks_side_by_side, loses_no_time, answers_are_lacking,
+                  is_installed, is_imported_at_once):
         yield f"package: {tried.__name__.replace('_', ' ')}", tried
     yield machine_case("the built program", BY_RULES, 0, None, "")
     yield machine_case("no program that isn't built", None, 0, None, "the program isn't built")

@@ -1,7 +1,9 @@
 """The command `serve`: answers worked out by hand, the laws that bind it to the other commands and to a session, and
 what comes of input that is none."""
 
+import collections
 import contextlib
+import copy
 import glob
 import io
 import json
@@ -22,6 +24,7 @@ from jsoncrdt.oracle.debugger import Refusal
 from jsoncrdt.oracle.grammar import read
 from jsoncrdt.oracle.program import command_line, made
 from jsoncrdt.oracle.requests import Input
+from jsoncrdt.oracle.rules import candidates
 from jsoncrdt.oracle.serve import Served, Subject, answers, serve
 from jsoncrdt.oracle.texts import Texts
 from jsoncrdt.serving import Here, line_of
@@ -631,6 +634,22 @@ def goes_anywhere(_):
                     expect(not stuck and served.on_state(position, None) == want, f"{path} at {shown}")
 
 
+def enables_what_acts(_):
+    """Of the events that a replica may make at a position those are enabled that `act` can make there."""
+    counts = collections.Counter()
+    for path in ("examples/late-message.jsoncrdt", "examples/answer-first.jsoncrdt"):
+        scenario = read(stored(path).encode())[0]
+        for position in range(0, len(scenario.schedule) + 1, 4):
+            served = Served(scenario)
+            served.goto(position)
+            enabled = served.enabled()
+            for event in [each for p in range(len(served.network)) for each in candidates(served.network, p)]:
+                move = copy.deepcopy(served).act(event)
+                expect((move.stuck is None) == (event in enabled), f"{path} at {position}: {event}, {move.stuck}")
+                counts[event[0], move.stuck is None] += 1
+    expect(all(counts[kind, is_made] for kind in ("exec", "apply", "done") for is_made in (True, False)), f"{counts}")
+
+
 def evaluates_alone(_):
     """An evaluation, and each other request that shows something, changes nothing."""
     looks = ["where", "state", "schedule", "print", "breaks", "event --trace --effects", "trace"]
@@ -862,6 +881,7 @@ def serving():
     yield "serve: events at their positions", is_one_journal
     yield "serve: places of documents", shows_parts
     yield "serve: states wherever one comes from", goes_anywhere
+    yield "serve: what is enabled", enables_what_acts
     yield "serve: what shows something changes nothing", evaluates_alone
     for row in WRONG:
         yield wrong_case(*row)

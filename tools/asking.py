@@ -207,6 +207,11 @@ def served():
     return asked() or in_python()
 
 
+def lack_of_serve():
+    """Why the rules in Python answer requests of `serve` in place of a program, or nothing where none is replaced."""
+    return "" if is_in_python() or asked() else f"{program()} has no serve"
+
+
 DOCUMENT, REFUSED = '{"doc":', '{"refused":'
 
 

@@ -4,6 +4,7 @@ schedule."""
 import re
 
 from places import Span
+from jsoncrdt.serving import line_of_refusal, line_of_stuck
 
 CLASS, VARIABLE, EVENT = 5, 13, 24
 REWRITE = "refactor.rewrite"
@@ -136,9 +137,7 @@ def in_words(answer):
     """Why an event can't be made, or how two replicas compare, as a line of a session."""
     if "operations" in answer:
         return " ".join(f"{answer[part]} {part}" for part in ("operations", "tree") if part in answer)
-    told = answer.get("stuck") or answer["refused"]
-    numbered = (told["stuck"], told["cause"], told["event"]) if "stuck" in told else (told["number"], told["name"])
-    return " ".join(["stuck" if "stuck" in told else "refused", *map(str, numbered)])
+    return line_of_stuck(answer["stuck"]) if "stuck" in answer else line_of_refusal(answer["refused"])
 
 
 def exchanged(ask, one, other):

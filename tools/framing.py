@@ -105,8 +105,8 @@ def writer():
 def lack_of_program():
     """Why the rules in Python answer in place of the proved program, in a sentence, or nothing where that does."""
     if not asking.is_in_python():
-        has_serve = asking.asked() is not None
-        return "" if has_serve else f"the rules in Python answer in part, unproved: {asking.program()} has no serve"
+        lack = asking.lack_of_serve()
+        return lack and f"the rules in Python answer in part, unproved: {lack}"
     if os.environ.get("JSONCRDT"):
         return "the rules in Python answer, as JSONCRDT says; nothing of that is proved"
     return f"the rules in Python answer, unproved: {crates.lack_of_built(asking.ROOT)}"

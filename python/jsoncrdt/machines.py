@@ -1,11 +1,12 @@
 """What executes scenarios: a program, or the rules in Python here. Both answer the words of a command line about the
-text of a scenario (`tell`), and all else here is made of that. A program is asked through one process of its `serve`;
-one that has none yet is started for each call.
+text of a scenario (`tell`), and all else here is made of that. A program is asked through processes of its `serve`, as
+many as threads ask at once; one that has none yet is started for each call.
 
 Each function takes a scenario or its text, and `by`, the machine that is asked. A text that is no scenario is raised as
 Refused, an event that no rule allows as Stuck."""
 
 import atexit
+import contextlib
 import functools
 import io
 import json
@@ -44,12 +45,35 @@ class Rules:
         return Told(out.getvalue().decode(), err.getvalue(), status)
 
 
+class Pool:
+    """Processes of a program's `serve`: `idle` are those that nobody asks. One that is asked by nobody else is taken, or
+    begun where there is none."""
+
+    def __init__(self, path):
+        self.path, self.idle = path, []
+        atexit.register(self.end)
+
+    @contextlib.contextmanager
+    def one(self):
+        """One for all that is asked about a text."""
+        try:
+            process = self.idle.pop()
+        except IndexError:
+            process = Process(self.path)
+        try:
+            yield process
+        finally:
+            self.idle.append(process)
+
+    def end(self):
+        for process in self.idle:
+            process.end()
+
+
 @functools.cache
-def served_by(path):
-    """The process of a program's `serve`, which all that ask the program share."""
-    process = Process(path)
-    atexit.register(process.end)
-    return process
+def pool_of(path):
+    """The processes of a program, which all that ask it share."""
+    return Pool(path)
 
 
 class Program:
@@ -65,9 +89,8 @@ class Program:
     def tell(self, words, text):
         if not has_serve(self.path):
             return self.call(words, text)
-        served = served_by(self.path)
         try:
-            with served.lock:
+            with pool_of(self.path).one() as served:
                 return Conversation(served, text).told(words)
         except (Lost, ValueError) as fault:
             raise answers.NoAnswer(f"{self.path}: {fault}") from fault

@@ -46,6 +46,11 @@ def line_of_refusal(refusal):
     return f"refused {refusal['number']} {refusal['name']}{at}"
 
 
+def line_of_stuck(told):
+    """The line by which other commands tell an event that is stuck, of what the journal or `weave` has of it."""
+    return " ".join(filter(None, ["stuck", str(told["stuck"]), told["cause"], told.get("key"), told["event"]]))
+
+
 @functools.cache
 def has_serve(path):
     """Whether a program has the command. It is asked once."""

@@ -39,6 +39,7 @@ function headOfCard(run, group, r, at) {
   const show = () => {
     Object.assign(chosen, { side: run.side, replica: r });
     pickTab("state");
+    detailsBody.scrollIntoView({ block: "nearest" });
   };
   return h("div", { class: "top" }, group.map(who),
     group.length > 1 && (count === 1 ? h("span", { class: "same" }, "same operations, same document")

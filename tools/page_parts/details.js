@@ -42,7 +42,7 @@ function sentenceOf(run, event) {
       isNew && ". None of it is applied yet", "."];
     case "take": return [name, " takes from ", who(event.f), ": ", brought, isNew && ". It isn't applied yet", "."];
     case "apply": return [name, " applies ", chip(event.o), ", which ", who(each.maker), " made at ",
-      goTo(run, each.made + 1), "."];
+      h("span", { class: "whole" }, goTo(run, each.made + 1), ".")];
     default: return [name, " ends its yield."];
   }
 }

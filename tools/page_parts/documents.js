@@ -173,7 +173,8 @@ function shownParts(parts, isMap, depth) {
       rows.push(h(flat ? "span" : "div", { class: "none" }, ` … ${items.length - index} more`));
       break;
     }
-    const out = shownItem(item, isMap, depth), comma = index + 1 < items.length && ",";
+    const out = shownItem(item, isMap, depth), isBlock = item.part && countNow(item.part.node) > 1;
+    const comma = index + 1 < items.length && !isBlock && ",";
     rows.push(flat ? [out, comma && ", "] : h("div", {}, out, comma));
   }
   return flat ? [open, rows, close] : [open, h("div", { class: "in" }, rows), close];

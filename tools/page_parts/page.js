@@ -43,12 +43,15 @@ const lanes = runs.map(run => new Lanes(run));
 const drawLanes = withRows => lanes.forEach(each => each.draw(withRows));
 
 const LEGEND = {
-  exec: "executes", send: "offers", recv: "receives", take: "takes one", apply: "applies", done: "ends a yield",
-  stuck: "stuck",
+  exec: "executes", let: "binds a variable", send: "offers", recv: "receives", take: "takes one", apply: "applies",
+  done: "ends a yield", stuck: "stuck",
 };
+// Signs that are told where they are in the run.
+const SELDOM = new Set(["let", "take", "stuck"]);
 
 function legend(run) {
-  const isThere = kind => kind === "stuck" ? run.stuck : kind !== "take" || run.events.some(({ k }) => k === "take");
+  const kinds = new Set(run.events.map(kindOf)).add(run.stuck && "stuck");
+  const isThere = kind => kinds.has(kind) || !SELDOM.has(kind);
   const sign = kind => s("svg", { viewBox: "-7 -7 14 14" },
     shape(kind, 0, 0, 1, { class: "shape", colour: "var(--muted)" }));
   return h("div", { class: "legend", "aria-hidden": "true" },
@@ -76,7 +79,8 @@ const slider = h("input", { type: "range", min: 0, max: last, step: 1, "aria-lab
   oninput: () => go(+slider.value) });
 const whereabouts = h("output", { class: "position" });
 const live = h("div", { class: "hidden", "aria-live": "polite" });
-const controls = h("div", { class: "controls" }, Object.values(buttons), slider, whereabouts,
+const controls = h("div", { class: "controls", role: "group", "aria-label": "Position" }, Object.values(buttons),
+  slider, whereabouts,
   h("button", { type: "button", class: "text", id: "keys", onclick: () => help.showModal() }, "Help"));
 
 const verdictOf = (kind, ...words) => h("p", { class: `verdict ${kind}` }, words);
@@ -252,7 +256,8 @@ const documentsSection = (body, side) => h("section", { class: "documents", "dat
 
 document.body.append(
   h("header", {}, h("h1", {}, title, h("small", {}, counts.filter(Boolean).join(" · "))),
-    isDiff ? verdictOfBoth(...runs) : verdict(runs[0]), controls),
+    isDiff ? verdictOfBoth(...runs) : verdict(runs[0])),
+  controls,
   h("main", { class: isDiff ? "diff" : names.length > MANY_REPLICAS ? "many" : "" }, lanes.map(lanesSection),
     documentBodies.map(documentsSection),
     h("section", { class: "details" }, h("div", { class: "head" }, sides, tabs), detailsBody)),
