@@ -17,7 +17,7 @@ use Rattle.jc_program.specs.declared.run.RunFault.TheVariants as R
 use Rattle.jc_program.specs.WorkFaults.{read_fault, run_fault}
 use Rattle.jc_program.specs.Faults.{IsCause}
 use Rattle.jc_program.specs.ViewText.{ReadsAs, Shows, IsRefused}
-use Rattle.jc_program.specs.ViewOutput.{AreTold, IsDueAt, IsDueOf, IsUnfinishedOf, HasRun, IsStoppedView}
+use Rattle.jc_program.specs.ViewOutput.{AreTold, IsUnfinishedOf, HasRun, IsStoppedView}
 use Rattle.jc_program.specs.Found.{found_view, IsFound}
 use Rattle.jc_program.specs.Commands.{IsAlone, IsDone, IsStoppedCommand}
 use Rattle.jc_program.specs.declared.recording.Recording.{Recording}
@@ -72,6 +72,9 @@ unread (Weave seed limit) told lines left old new why alone reads same = recordi
 
 -- ---- a refused text
 
+abbrev IsRefusedText : ScenarioFault → List ℕ → Type 0
+IsRefusedText fault text = (status : ℕ) × IsRefused fault text status
+
 module _ (told : Option (List ℕ)) (fault : ScenarioFault) (found : IsFound told (Err fault)) (old new : Stream) where
   module _ (IsMade : Scenario → Recording → Type 0) where
     -- a sink that was left alone was sent nothing
@@ -79,7 +82,7 @@ module _ (told : Option (List ℕ)) (fault : ScenarioFault) (found : IsFound tol
     refusal_recorded err_old err_new status quiet (text, h, wrote) =
         (found.0, found.1, ([], (text, (Err fault, found.2, (h, refl)), wrote), inl (wrote_none err_old err_new quiet)))
 
-    pub refusal_stopped : (HasThreads : List ℕ → Type 0) (why : RunFault) → (why ≡ R.Memory → new ≡ old) → (why ≡ R.Write → WrittenInPart (IsDueAt fault) old new) → IsStoppedRecording HasThreads IsMade (run_fault why) told old new
+    pub refusal_stopped : (HasThreads : List ℕ → Type 0) (why : RunFault) → (why ≡ R.Memory → new ≡ old) → (why ≡ R.Write → WrittenInPart (IsRefusedText fault) old new) → IsStoppedRecording HasThreads IsMade (run_fault why) told old new
     refusal_stopped HasThreads R.Memory memory write = (found.0, found.1, memory refl)
     refusal_stopped HasThreads R.Write memory write = let h = write refl in (found.0, found.1, (h.0, ([], h.1.0, (Err fault, found.2, (h.1.1, refl))), h.2))
 
@@ -89,11 +92,11 @@ module _ (told : Option (List ℕ)) (fault : ScenarioFault) (found : IsFound tol
   refused (Threads limit) lines err_old err_new status alone reads quiet h = absurd alone
   refused (Weave seed limit) lines err_old err_new status alone reads quiet h = refusal_recorded (IsBySeed seed limit) err_old err_new status quiet h
 
-  view_refusal : (view : View) (why : RunFault) → (why ≡ R.Memory → new ≡ old) → (why ≡ R.Write → WrittenInPart (IsDueAt fault) old new) → IsStoppedView view (run_fault why) told old new
+  view_refusal : (view : View) (why : RunFault) → (why ≡ R.Memory → new ≡ old) → (why ≡ R.Write → WrittenInPart (IsRefusedText fault) old new) → IsStoppedView view (run_fault why) told old new
   view_refusal view R.Memory memory write = (found.0, found.1, ([], inl refl, wrote_none old new (memory refl)))
-  view_refusal view R.Write memory write = let h = write refl in (found.0, found.1, (h.0, (Err fault, found.2, h.1), h.2))
+  view_refusal view R.Write memory write = let h = write refl in (found.0, found.1, (h.0, (h.1.0, (Err fault, found.2, h.1.1)), h.2))
 
-  pub refusal_stops : (task : Task) (lines left : Option (List ℕ)) (why : RunFault) → IsAlone task → task ≢ Debug → (why ≡ R.Memory → new ≡ old) → (why ≡ R.Write → WrittenInPart (IsDueAt fault) old new) → IsStoppedCommand task (run_fault why) told lines left old new
+  pub refusal_stops : (task : Task) (lines left : Option (List ℕ)) (why : RunFault) → IsAlone task → task ≢ Debug → (why ≡ R.Memory → new ≡ old) → (why ≡ R.Write → WrittenInPart (IsRefusedText fault) old new) → IsStoppedCommand task (run_fault why) told lines left old new
   refusal_stops (Show view) lines left why alone reads memory write = view_refusal view why memory write
   refusal_stops Debug lines left why alone reads memory write = absurd (reads refl)
   refusal_stops (Threads limit) lines left why alone reads memory write = absurd alone
@@ -105,9 +108,9 @@ module _ (told : Option (List ℕ)) (s : ScenarioValue) (found : IsFound told (O
   pub shown : (status : ℕ) → Written (λ text. Shows view (scenario_view s) text status) old new → HasRun view told old new status
   shown status (text, h, wrote) = (found.0, found.1, (text, (Ok (scenario_view s), found.2, h), wrote))
 
-  pub show_stops : (why : RunFault) → (why ≡ R.Memory → Written (IsUnfinishedOf view (scenario_view s)) old new) → (why ≡ R.Write → WrittenInPart (IsDueOf view (scenario_view s)) old new) → IsStoppedView view (run_fault why) told old new
+  pub show_stops : (why : RunFault) → (why ≡ R.Memory → Written (IsUnfinishedOf view (scenario_view s)) old new) → (why ≡ R.Write → WrittenInPart (λ text. (status : ℕ) × Shows view (scenario_view s) text status) old new) → IsStoppedView view (run_fault why) told old new
   show_stops R.Memory memory write = let h = memory refl in (found.0, found.1, (h.0, inr (scenario_view s, found.2, h.1), h.2))
-  show_stops R.Write memory write = let h = write refl in (found.0, found.1, (h.0, (Ok (scenario_view s), found.2, h.1), h.2))
+  show_stops R.Write memory write = let h = write refl in (found.0, found.1, (h.0, (h.1.0, (Ok (scenario_view s), found.2, h.1.1)), h.2))
 
 -- ---- failures at the fault of a run
 

@@ -10,10 +10,9 @@ use Rattle.jc_network.specs.Given.{before_given, IsBeforeGiven}
 use Rattle.jc_cli.specs.declared.order.View.TheVariants.{Journal}
 use Rattle.jc_io.specs.Written.{Stream, Wrote, Written, WrittenInPart}
 use Rattle.jc_io.proofs.WrittenLemmas.{wrote_none, wrote_both, part_after}
-use Rattle.jc_program.specs.JournalResult.{JournalsAll, AreLinesDue}
-use Rattle.jc_program.specs.Journals.{Asked, JournalOf, Journaled, given_stuck, ran, JournalBegins, JournalStops, IsJournalUnfinished}
+use Rattle.jc_program.specs.JournalResult.{JournalsAll, JournalBegins, AreLinesDue, IsJournalDue}
+use Rattle.jc_program.specs.Journals.{Asked, JournalOf, Journaled, given_stuck, ran, JournalStops, IsJournalUnfinished}
 use Rattle.jc_program.specs.Runs.{Stuck, status_of}
-use Rattle.jc_program.specs.ViewOutput.{IsJournalDue}
 use Rattle.jc_program.specs.ViewText.{Shows}
 use Rattle.jc_program.proofs.JournalsLemmas.{journal_as, begins_as, stops_as}
 

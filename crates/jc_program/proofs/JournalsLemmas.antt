@@ -16,7 +16,8 @@ use Rattle.jc_network.proofs.MembersLemmas.{set_there}
 use Rattle.jc_journal.specs.EventLine.{event_line}
 use Rattle.jc_journal.proofs.EventEffectsLemmas.{told_effects, same_effects}
 use Rattle.jc_journal.specs.StuckLine.{stuck_event_line}
-use Rattle.jc_program.specs.Journals.{Asked, rows_asked, IsEventLine, JournalBy, JournalOf, JournalBegins, JournalStops}
+use Rattle.jc_program.specs.Journals.{Asked, rows_asked, IsEventLine, JournalBy, JournalOf, JournalStops}
+use Rattle.jc_program.specs.JournalResult.{JournalBegins}
 use Rattle.jc_program.specs.Runs.{Made, Stuck, GoesBy, events_of}
 use Rattle.jc_program.proofs.PlayResultLemmas.{split_here}
 
@@ -89,7 +90,7 @@ module _ (one_step : OneStepIn) where
 
 -- ---- journals
 
-after_made : (network : Network) (made : List Made) (last : Network) → GoesBy network made last → AfterIn network (events_of made) last
+pub after_made : (network : Network) (made : List Made) (last : Network) → GoesBy network made last → AfterIn network (events_of made) last
 after_made network [] last g = sym g
 after_made network (m ∷ made) last g = (g.0, m.1, g.1, after_made g.0 made last g.2)
 

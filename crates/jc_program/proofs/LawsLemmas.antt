@@ -10,14 +10,15 @@ use Rattle.jc_scenario.specs.Laws.{OneScenario, ScenarioOrFault, OneFault}
 use Rattle.jc_scenario.specs.WellFormed.{Scenario}
 use Rattle.jc_network.specs.Given.{before_given, IsStart, OneStart, OneGivenStuck, LedOrStuck}
 use Rattle.jc_dump.specs.Texts.{refused_text, given_text}
-use Rattle.jc_dump.specs.Texts.{dumps_text}
-use Rattle.jc_view.specs.Visible.{views_text}
+use Rattle.jc_program.specs.declared.run.ReplicaLines.{ReplicaLines}
+use Rattle.jc_program.specs.declared.run.ReplicaLines.TheVariants.{Dumps, Documents}
+use Rattle.jc_program.specs.ReplicaLines.{lines_text}
 use Rattle.jc_program.specs.Runs.{Made, GoesBy, EndsAt, Stuck, Plays, events_of, events_text, stuck_line, status_of}
 use Rattle.jc_cli.specs.declared.order.View.{View}
 use Rattle.jc_cli.specs.declared.order.View.TheVariants.{Check, Print, Run, Document, Journal}
 use Rattle.jc_program.specs.Journals.{Asked, JournalBy, JournalOf, Journaled, stuck_part}
 use Rattle.jc_program.specs.Journals as J
-use Rattle.jc_program.specs.ViewText.{ReadsAs, RanThrough, ViewedThrough, IsGivenShown, Shows, IsRefused, RanOn}
+use Rattle.jc_program.specs.ViewText.{ReadsAs, RanThrough, IsGivenShown, ShowsRun, Shows, IsRefused, RanOn}
 use Rattle.jc_program.proofs.JournalsLemmas.{lines_go, same_lines}
 
 first_same : {X : Type 0} (x y : X) (xs ys : List X) → x ∷ xs ≡ y ∷ ys → x ≡ y
@@ -114,37 +115,28 @@ module _ (one_step : OneStepIn) (stuck_has_none : StuckInHasNone) (one_stuck : O
       (is ∙ ((λ i. given.2 i ++ after.2 i) ∙ sym same_is), ap status_of after.1)
 
   module _ (one_start : OneStart) (one_given_stuck : OneGivenStuck) (led_or_stuck : LedOrStuck) where
-    same_through : (trace : Bool) (s : Scenario) (shown other : List ℕ) (status other_status : ℕ) → RanThrough trace s shown status → RanThrough trace s other other_status → (shown ≡ other) × (status ≡ other_status)
-    same_through trace s shown other status other_status a b =
+    same_through : (trace : Bool) (lines : ReplicaLines) (events : List Event) (s : Scenario) (shown other : List ℕ) (status other_status : ℕ) → RanThrough trace lines events s shown status → RanThrough trace lines events s other other_status → (shown ≡ other) × (status ≡ other_status)
+    same_through trace lines events s shown other status other_status a b =
         let q = b.plays in
-        let p = subst (λ (n : Network). Plays trace s.names n s.schedule a.last a.stuck a.blocks) (one_start s a.start b.start a.is_start b.is_start) a.plays in
-        let same = same_play s.schedule b.start a.last b.last p.made q.made a.stuck b.stuck p.goes p.ends q.goes q.ends in
+        let p = subst (λ (n : Network). Plays trace s.names n events a.last a.stuck a.blocks) (one_start s a.start b.start a.is_start b.is_start) a.plays in
+        let same = same_play events b.start a.last b.last p.made q.made a.stuck b.stuck p.goes p.ends q.goes q.ends in
         let blocks : a.blocks ≡ b.blocks = p.shown ∙ (ap (λ made. events_text trace s.names 1 made) same.0 ∙ sym q.shown) in (
-          a.written ∙ ((λ i. blocks i ++ dumps_text s.names (same.1 i).states ++ stuck_line s.names (same.2 i)) ∙ sym b.written),
+          a.written ∙ ((λ i. blocks i ++ lines_text lines s.names (same.1 i).states ++ stuck_line s.names (same.2 i)) ∙ sym b.written),
           a.ends ∙ (ap status_of same.2 ∙ sym b.ends),
         )
 
-    same_viewed : (n : ℕ) (s : Scenario) (shown other : List ℕ) (status other_status : ℕ) → ViewedThrough n s shown status → ViewedThrough n s other other_status → (shown ≡ other) × (status ≡ other_status)
-    same_viewed n s shown other status other_status a b =
-        let q = b.plays in
-        let p = subst (λ (m : Network). Plays false s.names m (take n s.schedule) a.last a.stuck []) (one_start s a.start b.start a.is_start b.is_start) a.plays in
-        let same = same_play (take n s.schedule) b.start a.last b.last p.made q.made a.stuck b.stuck p.goes p.ends q.goes q.ends in (
-          a.written ∙ ((λ i. views_text s.names (same.1 i).states ++ stuck_line s.names (same.2 i)) ∙ sym b.written),
-          a.ends ∙ (ap status_of same.2 ∙ sym b.ends),
-        )
+    same_run : (trace : Bool) (lines : ReplicaLines) (events : List Event) (s : Scenario) (shown other : List ℕ) (status other_status : ℕ) → ShowsRun trace lines events s shown status → ShowsRun trace lines events s other other_status → (shown ≡ other) × (status ≡ other_status)
+    same_run trace lines events s shown other status other_status (inl a) (inl b) = same_through trace lines events s shown other status other_status a b
+    same_run trace lines events s shown other status other_status (inl a) (inr b) = absurd (no_start led_or_stuck s a.start other other_status a.is_start b)
+    same_run trace lines events s shown other status other_status (inr a) (inl b) = absurd (no_start led_or_stuck s b.start shown status b.is_start a)
+    same_run trace lines events s shown other status other_status (inr a) (inr b) = same_given one_given_stuck s shown other status other_status a b
 
     module _ (one_scenario : OneScenario) (scenario_or_fault : ScenarioOrFault) (one_fault : OneFault) where
       same_shown : (view : View) (s : Scenario) (shown other : List ℕ) (status other_status : ℕ) → Shows view s shown status → Shows view s other other_status → (shown ≡ other) × (status ≡ other_status)
       same_shown Check s shown other status other_status a b = (a.0 ∙ sym b.0, a.1 ∙ sym b.1)
       same_shown Print s shown other status other_status a b = (a.0 ∙ sym b.0, a.1 ∙ sym b.1)
-      same_shown (Run trace) s shown other status other_status (inl a) (inl b) = same_through trace s shown other status other_status a b
-      same_shown (Run trace) s shown other status other_status (inl a) (inr b) = absurd (no_start led_or_stuck s a.start other other_status a.is_start b)
-      same_shown (Run trace) s shown other status other_status (inr a) (inl b) = absurd (no_start led_or_stuck s b.start shown status b.is_start a)
-      same_shown (Run trace) s shown other status other_status (inr a) (inr b) = same_given one_given_stuck s shown other status other_status a b
-      same_shown (Document n) s shown other status other_status (inl a) (inl b) = same_viewed n s shown other status other_status a b
-      same_shown (Document n) s shown other status other_status (inl a) (inr b) = absurd (no_start led_or_stuck s a.start other other_status a.is_start b)
-      same_shown (Document n) s shown other status other_status (inr a) (inl b) = absurd (no_start led_or_stuck s b.start shown status b.is_start a)
-      same_shown (Document n) s shown other status other_status (inr a) (inr b) = same_given one_given_stuck s shown other status other_status a b
+      same_shown (Run trace) s shown other status other_status a b = same_run trace Dumps s.schedule s shown other status other_status a b
+      same_shown (Document n) s shown other status other_status a b = same_run false Documents (take n s.schedule) s shown other status other_status a b
       same_shown (Journal trace effects) s shown other status other_status a b = same_journal (record { rules = trace; effects = effects }) s shown other status other_status a b
 
       pub one_run : (view : View) (bytes shown other : List ℕ) (status other_status : ℕ) (read other_read : Result Scenario ScenarioFault) → ReadsAs bytes read → ReadsAs bytes other_read → RanOn view read shown status → RanOn view other_read other other_status → (shown ≡ other) × (status ≡ other_status)

@@ -4,14 +4,13 @@ pub mod JournalResultLemmas
 pub mod ReadsScenarioLemmas
 pub mod ViewOutputLemmas
 pub mod CommandCountLemmas
-pub mod DumpsLemmas
+pub mod ReplicaLinesLemmas
 pub mod ViewTextLemmas
 pub mod GivenStuckLemmas
-pub mod DocumentsLemmas
-pub mod ViewsLemmas
 pub mod JournaledLemmas
 pub mod LawsLemmas
 pub mod SomeRunLemmas
+pub mod ShowLemmas
 pub mod SessionRunsLemmas
 pub mod CommandsLemmas
 pub mod ThreadRunsLemmas

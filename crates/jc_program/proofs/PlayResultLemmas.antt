@@ -1,31 +1,23 @@
 -- About PlayResult: a text that is written but for what is held; a run that goes on by one event, and its end. The
 -- functions of `run` use it.
-use Rattle.std.proofs.Common.{◌≡◌, ℕ, suc, ◌+◌, ◌<◌, ◌≤◌, List, [], ◌∷◌, ◌++◌, length, take, drop, get_or, slice_get, is_some, Bool, Option, Some, None, true, false, refl, ap, sym, ◌∙◌, subst, append_assoc, append-nil, add-zero, arith}
+use Rattle.std.proofs.Common.{◌≡◌, ℕ, ◌+◌, ◌<◌, ◌≤◌, List, [], ◌∷◌, ◌++◌, length, take, drop, get_or, is_some, Bool, Option, Some, None, true, false, refl, ap, sym, ◌∙◌, subst, append_assoc, append-nil, add-zero, arith}
 use Rattle.std.proofs.lemmas.Grind.{common_steps}
 use Rattle.std.proofs.lemmas.List.{take_more}
 use Rattle.std.proofs.Math.Seq.{take-length}
 use Rattle.jc_rules.specs.declared.operation.Event.{Event}
 use Rattle.jc_rules.specs.declared.rule.Rule.{Rule}
-use Rattle.jc_rules.specs.ReplicaNames.{name_at}
 use Rattle.jc_rules.specs.Refused.{IsStuckIn}
-use Rattle.jc_rules.specs.State.{State}
 use Rattle.jc_rules.specs.Step.{Network, StepIn}
 use Rattle.jc_rules.specs.Trace.{Rows}
 use Rattle.jc_printer.specs.Canon.{AreNamed}
-use Rattle.jc_scenario.specs.WellFormed.{Scenario}
 use Rattle.jc_network.specs.declared.fault.Stuck.{Stuck as StuckEvent}
 use Rattle.jc_network.specs.NetworkHistory.{NetworkHistory, StepsTo}
-use Rattle.jc_network.specs.Given.{IsStarted}
-use Rattle.jc_dump.specs.Dump.{dump_line}
 use Rattle.jc_io.specs.Written.{Stream, Wrote, WrotePart, Written, WrittenInPart}
-use Rattle.jc_session.proofs.TextsListLemmas.{next_dumps}
 use Rattle.jc_io.proofs.WrittenLemmas.{wrote_none, wrote_both, part_after}
 use Rattle.jc_program.specs.Texts.{event_text}
-use Rattle.jc_program.specs.ViewText.{RanThrough}
-use Rattle.jc_program.specs.ViewOutput.{IsNext}
-use Rattle.jc_dump.specs.Texts.{block_text, dumps_text}
-use Rattle.jc_program.specs.Runs.{Made, GoesBy, Plays, events_of, events_text, stuck_line, status_of}
-use Rattle.jc_program.specs.PlayResult.{WroteAndHolds, WrittenAndHeld, PlaysNext, PlaysAll}
+use Rattle.jc_dump.specs.Texts.{block_text}
+use Rattle.jc_program.specs.Runs.{Made, GoesBy, events_of, events_text}
+use Rattle.jc_program.specs.PlayResult.{WroteAndHolds, WrittenAndHeld, IsNext, PlaysNext, PlaysAll}
 
 pub goes_on : (network : Network) (made : List Made) (last : Network) (e : Event) (rows : List (Rule × ℕ)) (new : Network) → GoesBy network made last → StepIn last e new rows → GoesBy network (made ++ (e, rows) ∷ []) new
 goes_on network [] last e rows new a s = (new, subst (λ (n : Network). StepIn n e new rows) a s, refl)
@@ -54,29 +46,6 @@ pub shown_more : (trace : Bool) (names : List (List ℕ)) (made : List Made) (e 
 shown_more trace names made e rows n count =
     let number : 1 + length made ≡ n = omega (arith, count) in
     events_text-append trace names 1 made (e, rows) ∙ rw number refl
-
--- what was played of a scenario from its start, with the dumps and the stuck line, is its run
-pub ran : (trace : Bool) (s : Scenario) (first last : NetworkHistory) (schedule : List Event) (a b : Stream) (answer : Option StuckEvent) → IsStarted s first → schedule ≡ s.schedule → (h : PlaysAll trace first last schedule a b answer) → (shown : List ℕ) → shown ≡ h.text ++ dumps_text last.names last.history.now.states ++ stuck_line last.names h.stuck → RanThrough trace s shown (status_of h.stuck)
-ran trace s first last schedule a b answer from events h shown is =
-    let names : last.names ≡ s.names = h.names ∙ from.names in
-    let there = subst (λ (es : List Event). Plays trace first.names first.history.now es last.history.now h.stuck h.text) events h.plays in
-    record {
-      start = first.history.now;
-      is_start = from.start;
-      last = last.history.now;
-      stuck = h.stuck;
-      blocks = h.text;
-      plays = subst (λ (ns : List (List ℕ)). Plays trace ns first.history.now s.schedule last.history.now h.stuck h.text) from.names there;
-      written = is ∙ ap (λ n. h.text ++ dumps_text n last.history.now.states ++ stuck_line n h.stuck) names;
-      ends = refl;
-    }
-
--- one dump more
-pub dumps_more : (names : List (List ℕ)) (p : ℕ) (network : List State) (A : State) → slice_get network p ≡ Some A → dumps_text names (take (p + 1) network) ≡ dumps_text names (take p network) ++ dump_line names (name_at names p) A
-dumps_more names p network A e =
-    let one : p + 1 ≡ suc p = omega arith in
-    let zero_more : 0 + p ≡ p = omega arith in
-    ap (λ m. dumps_text names (take m network)) one ∙ (next_dumps names 0 p network A e ∙ ap (λ k. dumps_text names (take p network) ++ dump_line names (name_at names k) A) zero_more)
 
 -- ---- what is held
 

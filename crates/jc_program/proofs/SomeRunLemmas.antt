@@ -1,5 +1,5 @@
--- About Laws (RunHasAText): each view of bytes has a text and a status.
-use Rattle.std.proofs.Common.{◌≡◌, inl, inr, ℕ, ◌+◌, length, List, [], ◌∷◌, ◌++◌, take, Bool, true, false, Option, Some, None, Ok, Err, refl}
+-- About Laws (RunHasAText): each view of bytes has a text and a status, and what was begun is the front of such a text.
+use Rattle.std.proofs.Common.{◌≡◌, inl, inr, ℕ, ◌+◌, length, List, [], ◌∷◌, ◌++◌, take, Bool, true, false, Option, Some, None, Ok, Err, refl, sym, ◌∙◌, ap, subst, append_assoc, append-nil, add-zero, arith}
 use Rattle.jc_rules.specs.declared.operation.Event.{Event}
 use Rattle.jc_rules.specs.Refused.{Cause}
 use Rattle.jc_rules.specs.Step.{Network, AfterIn}
@@ -12,18 +12,23 @@ use Rattle.jc_scenario.specs.WellFormed.{Scenario}
 use Rattle.jc_network.specs.Given.{before_given, IsStart, IsGivenStuck, LedOrStuck}
 use Rattle.jc_network.specs.Laws.{StepOrStuck}
 use Rattle.jc_network.proofs.EnabledLemmas.{decided_in}
-use Rattle.jc_dump.specs.Texts.{dumps_text, given_text}
-use Rattle.jc_view.specs.Visible.{views_text}
+use Rattle.jc_dump.specs.Texts.{given_text}
 use Rattle.jc_session.proofs.TextFaultsLemmas.{fault_line, fault_told}
-use Rattle.jc_network.proofs.AfterLemmas.{after_one_more}
+use Rattle.jc_network.proofs.AfterLemmas.{after_more, after_one_more}
 use Rattle.jc_cli.specs.declared.order.View.{View}
 use Rattle.jc_cli.specs.declared.order.View.TheVariants.{Check, Print, Run, Document, Journal}
 use Rattle.jc_program.specs.Laws.{RunHasAText}
-use Rattle.jc_program.specs.Journals.{Asked, JournalOf, given_stuck, ran, stuck_part}
-use Rattle.jc_program.specs.ViewText.{IsGivenShown, Shows, IsRefused}
-use Rattle.jc_program.specs.Runs.{Made, GoesBy, EndsAt, Stuck, events_text, stuck_line, status_of}
-use Rattle.jc_program.specs.Texts.{counts_text}
-use Rattle.jc_program.proofs.JournalsLemmas.{lines_of, all_led}
+use Rattle.jc_program.specs.Journals.{Asked, JournalBy, JournalOf, Journaled, given_stuck, ran, stuck_part}
+use Rattle.jc_program.specs.JournalResult.{JournalBegins, IsJournalDue}
+use Rattle.jc_program.specs.declared.run.ReplicaLines.{ReplicaLines}
+use Rattle.jc_program.specs.declared.run.ReplicaLines.TheVariants.{Dumps, Documents}
+use Rattle.jc_program.specs.ReplicaLines.{lines_text}
+use Rattle.jc_program.specs.PlayResult.{IsRunDue}
+use Rattle.jc_program.specs.ViewOutput.{Begins}
+use Rattle.jc_program.specs.ViewText.{IsGivenShown, ShowsRun, Shows, IsRefused}
+use Rattle.jc_program.specs.Runs.{Made, GoesBy, EndsAt, Stuck, events_of, events_text, stuck_line, status_of}
+use Rattle.jc_program.specs.Texts.{event_text, counts_text}
+use Rattle.jc_program.proofs.JournalsLemmas.{lines_of, lines_go, after_made, all_led}
 
 -- from a network a schedule is made up to its end or its first stuck event
 record Played (network : Network) (schedule : List Event) : Type 0 where
@@ -37,10 +42,41 @@ ends_more : (e : Event) (m : Made) (es : List Event) (made : List Made) (last : 
 ends_more e m es made last None same h = λ i. same i ∷ h i
 ends_more e m es made last (Some (event, why)) same (more, is, stuck) = (more, λ i. same i ∷ is i, stuck)
 
--- without the trace nothing is shown of events
-none_shown : (names : List (List ℕ)) (n : ℕ) (made : List Made) → [] ≡ events_text false names n made
-none_shown names n [] = refl
-none_shown names n (m ∷ made) = none_shown names (n + 1) made
+-- ---- some events, and the others behind them
+
+goes_both : (network : Network) (made : List Made) (between : Network) (others : List Made) (last : Network) → GoesBy network made between → GoesBy between others last → GoesBy network (made ++ others) last
+goes_both network [] between others last a b = subst (λ (N : Network). GoesBy N others last) a b
+goes_both network (m ∷ made) between others last a b = (a.0, a.1, goes_both a.0 made between others last a.2 b)
+
+events_text-both : (trace : Bool) (names : List (List ℕ)) (n : ℕ) (made others : List Made) → events_text trace names n (made ++ others) ≡ events_text trace names n made ++ events_text trace names (n + length made) others
+events_text-both trace names n [] others = ap (λ k. events_text trace names k others) (sym (add-zero n))
+events_text-both trace names n (m ∷ made) others =
+    let number : n + 1 + length made ≡ n + length (m ∷ made) = omega arith in
+    let block = event_text trace names n m.0 m.1 in
+    ap (λ t. block ++ t) (events_text-both trace names (n + 1) made others ∙ ap (λ k. events_text trace names (n + 1) made ++ events_text trace names k others) number)
+    ∙ sym (append_assoc block (events_text trace names (n + 1) made) (events_text trace names (n + length (m ∷ made)) others))
+
+events_both : (made others : List Made) (more : List Event) → events_of made ++ (events_of others ++ more) ≡ events_of (made ++ others) ++ more
+events_both [] others more = refl
+events_both (m ∷ made) others more = ap (λ es. m.0 ∷ es) (events_both made others more)
+
+ends_behind : (made : List Made) (events more : List Event) (others : List Made) (last : Network) (stuck : Option Stuck) → events ≡ events_of made ++ more → EndsAt more others last stuck → EndsAt events (made ++ others) last stuck
+ends_behind made events more others last None first h =
+    first ∙ (ap (λ es. events_of made ++ es) (h ∙ sym (append-nil (events_of others))) ∙ (events_both made others [] ∙ append-nil (events_of (made ++ others))))
+ends_behind made events more others last (Some (event, why)) first (later, is, stuck) =
+    (later, first ∙ (ap (λ es. events_of made ++ es) is ∙ events_both made others (event ∷ later)), stuck)
+
+lines_both : (asked : Asked) (given : Bool) (names : List (List ℕ)) (n : ℕ) (network : Network) (made : List Made) (between : Network) (others : List Made) (last : Network) (text more : List ℕ)
+    → JournalBy asked given names n network made between text
+    → JournalBy asked given names (n + length made) between others last more
+    → JournalBy asked given names n network (made ++ others) last (text ++ more)
+lines_both asked given names n network [] between others last text more a b =
+    let here = subst (λ (N : Network). JournalBy asked given names n N others last more) a.0 (subst (λ k. JournalBy asked given names k between others last more) (add-zero n) b) in
+    subst (λ t. JournalBy asked given names n network others last (t ++ more)) (sym a.1) here
+lines_both asked given names n network (m ∷ made) between others last text more a b =
+    let number : n + length (m ∷ made) ≡ n + 1 + length made = omega arith in
+    let later = lines_both asked given names (n + 1) a.0 made between others last a.3 more a.5 (subst (λ k. JournalBy asked given names k between others last more) number b) in
+    (a.0, a.1, a.2, a.3 ++ more, a.4, later, ap (λ t. t ++ more) a.6 ∙ append_assoc a.2 a.3 more)
 
 module _ (step_or_stuck : StepOrStuck) (led_or_stuck : LedOrStuck) where
   played : (s : Scenario) (before : List Event) (network : Network) → AfterIn (before_given s) before network → (es : List Event) → Played network es
@@ -63,11 +99,11 @@ module _ (step_or_stuck : StepOrStuck) (led_or_stuck : LedOrStuck) where
   from_start : (s : Scenario) (start : Network) → IsStart s start → (es : List Event) → Played start es
   from_start s start led es = played s s.given start led es
 
-  run_of : (trace : Bool) (s : Scenario) (start : Network) → IsStart s start → (out : List ℕ) × (status : ℕ) × Shows (Run trace) s out status
-  run_of trace s start led =
-      let p = from_start s start led s.schedule in
+  run_of : (trace : Bool) (lines : ReplicaLines) (events : List Event) (s : Scenario) (start : Network) → IsStart s start → (out : List ℕ) × (status : ℕ) × ShowsRun trace lines events s out status
+  run_of trace lines events s start led =
+      let p = from_start s start led events in
       let blocks = events_text trace s.names 1 p.made in (
-        blocks ++ dumps_text s.names p.last.states ++ stuck_line s.names p.stuck,
+        blocks ++ lines_text lines s.names p.last.states ++ stuck_line s.names p.stuck,
         status_of p.stuck,
         inl (record {
           start = start;
@@ -81,60 +117,102 @@ module _ (step_or_stuck : StepOrStuck) (led_or_stuck : LedOrStuck) where
         }),
       )
 
-  view_of : (n : ℕ) (s : Scenario) (start : Network) → IsStart s start → (out : List ℕ) × (status : ℕ) × Shows (Document n) s out status
-  view_of n s start led =
-      let p = from_start s start led (take n s.schedule) in (
-        views_text s.names p.last.states ++ stuck_line s.names p.stuck,
+  -- what was begun of it is the front of a whole text
+  run_begun : (trace : Bool) (lines : ReplicaLines) (events : List Event) (s : Scenario) (start : Network) (text : List ℕ) → IsStart s start → Begins trace s.names start events text → (more : List ℕ) × (status : ℕ) × ShowsRun trace lines events s (text ++ more) status
+  run_begun trace lines events s start text led h =
+      let p = played s (s.given ++ events_of h.made) h.last (after_more (before_given s) s.given start (events_of h.made) h.last led (after_made start h.made h.last h.goes)) h.more in
+      let rest = events_text trace s.names (1 + length h.made) p.made in
+      let states = lines_text lines s.names p.last.states in
+      let line = stuck_line s.names p.stuck in
+      let blocks = events_text trace s.names 1 (h.made ++ p.made) in
+      let same : blocks ≡ text ++ rest = events_text-both trace s.names 1 h.made p.made ∙ ap (λ t. t ++ rest) (sym h.shown) in (
+        rest ++ states ++ line,
         status_of p.stuck,
         inl (record {
           start = start;
           is_start = led;
           last = p.last;
           stuck = p.stuck;
-          plays = record { made = p.made; goes = p.goes; ends = p.ends; shown = none_shown s.names 1 p.made };
-          written = refl;
+          blocks = blocks;
+          plays = record { made = h.made ++ p.made; goes = goes_both start h.made h.last p.made p.last h.goes p.goes; ends = ends_behind h.made events h.more p.made p.last p.stuck h.events p.ends; shown = refl };
+          written = sym (append_assoc text (rest ++ states) line) ∙ ap (λ t. t ++ line) (sym (append_assoc text rest states) ∙ ap (λ t. t ++ states) (sym same));
           ends = refl;
         }),
       )
 
-  -- behind its given events
-  journal_after : (asked : Asked) (s : Scenario) (last : Network) (made : List Made) (stuck : Option Stuck) → GoesBy (before_given s) made last → EndsAt s.given made last stuck → (out : List ℕ) × (status : ℕ) × Shows (Journal asked.rules asked.effects) s out status
-  journal_after asked s last made (Some x) goes ends =
-      let lines = lines_of s.scripts asked true s.names 1 (before_given s) made last ([], refl) goes in
-      let text = lines.0 ++ stuck_part s.names true (length made + 1) last (Some x) in
-      (text, 3, given_stuck last x (record { made = made; lines = lines.0; goes = lines.1; ends = ends; written = refl }))
-  journal_after asked s start made None goes ends =
-      let lines = lines_of s.scripts asked true s.names 1 (before_given s) made start ([], refl) goes in
-      let first = lines.0 ++ [] in
-      let given : JournalOf asked true s.names (before_given s) s.given start None first = record { made = made; lines = lines.0; goes = lines.1; ends = ends; written = refl } in
+  pub run_due : (trace : Bool) (lines : ReplicaLines) (events : List Event) (s : Scenario) (text : List ℕ) → IsRunDue trace lines events s text → (more : List ℕ) × (status : ℕ) × ShowsRun trace lines events s (text ++ more) status
+  run_due trace lines events s text (inl (start, led, begins)) = run_begun trace lines events s start text led begins
+  run_due trace lines events s text (inr (status, shows)) = ([], status, subst (λ t. ShowsRun trace lines events s t status) (sym (append-nil text)) shows)
+
+  -- behind its given events, of which these lines were told
+  journal_after : (asked : Asked) (s : Scenario) (last : Network) (made : List Made) (stuck : Option Stuck) (lines : List ℕ) → JournalBy asked true s.names 1 (before_given s) made last lines → EndsAt s.given made last stuck → (more : List ℕ) × (status : ℕ) × Journaled asked s (lines ++ more) status
+  journal_after asked s last made (Some x) lines goes ends =
+      let line = stuck_part s.names true (length made + 1) last (Some x) in
+      (line, 3, given_stuck last x (record { made = made; lines = lines; goes = goes; ends = ends; written = refl }))
+  journal_after asked s start made None lines goes ends =
+      let first = lines ++ [] in
+      let given : JournalOf asked true s.names (before_given s) s.given start None first = record { made = made; lines = lines; goes = goes; ends = ends; written = refl } in
       let led = all_led asked true s.names (before_given s) s.given start first given in
       let p = played s s.given start led s.schedule in
       let rest = lines_of s.scripts asked false s.names 1 start p.made p.last (s.given, after_states (before_given s) s.given start led) p.goes in
       let text = rest.0 ++ stuck_part s.names false (length p.made + 1) p.last p.stuck in
-      (first ++ text, status_of p.stuck, ran start p.last p.stuck first text given (record { made = p.made; lines = rest.0; goes = rest.1; ends = p.ends; written = refl }) refl)
+      (text, status_of p.stuck, ran start p.last p.stuck first text given (record { made = p.made; lines = rest.0; goes = rest.1; ends = p.ends; written = refl }) (ap (λ t. t ++ text) (sym (append-nil lines))))
 
-  journal_of : (asked : Asked) (s : Scenario) → (out : List ℕ) × (status : ℕ) × Shows (Journal asked.rules asked.effects) s out status
+  -- of which some first events were told
+  given_begun : (asked : Asked) (s : Scenario) (text : List ℕ) → JournalBegins asked true s.names (before_given s) s.given text → (more : List ℕ) × (status : ℕ) × Journaled asked s (text ++ more) status
+  given_begun asked s text h =
+      let led = after_made (before_given s) h.made h.last (lines_go asked true s.names 1 (before_given s) h.made h.last text h.goes) in
+      let p = played s (events_of h.made) h.last led h.more in
+      let rest = lines_of s.scripts asked true s.names (1 + length h.made) h.last p.made p.last (events_of h.made, after_states (before_given s) (events_of h.made) h.last led) p.goes in
+      let whole = journal_after asked s p.last (h.made ++ p.made) p.stuck (text ++ rest.0) (lines_both asked true s.names 1 (before_given s) h.made h.last p.made p.last text rest.0 h.goes rest.1) (ends_behind h.made s.given h.more p.made p.last p.stuck h.are_first p.ends) in
+      (rest.0 ++ whole.0, whole.1, subst (λ t. Journaled asked s t whole.1) (append_assoc text rest.0 whole.0) whole.2)
+
+  -- or some of the schedule
+  schedule_begun : (asked : Asked) (s : Scenario) (start : Network) (first text : List ℕ) → JournalOf asked true s.names (before_given s) s.given start None first → JournalBegins asked false s.names start s.schedule text → (more : List ℕ) × (status : ℕ) × Journaled asked s ((first ++ text) ++ more) status
+  schedule_begun asked s start first text given h =
+      let led = all_led asked true s.names (before_given s) s.given start first given in
+      let here = after_more (before_given s) s.given start (events_of h.made) h.last led (after_made start h.made h.last (lines_go asked false s.names 1 start h.made h.last text h.goes)) in
+      let p = played s (s.given ++ events_of h.made) h.last here h.more in
+      let rest = lines_of s.scripts asked false s.names (1 + length h.made) h.last p.made p.last (s.given ++ events_of h.made, after_states (before_given s) (s.given ++ events_of h.made) h.last here) p.goes in
+      let line = stuck_part s.names false (length (h.made ++ p.made) + 1) p.last p.stuck in
+      let all = (text ++ rest.0) ++ line in (
+        rest.0 ++ line,
+        status_of p.stuck,
+        ran start p.last p.stuck first all given
+            (record { made = h.made ++ p.made; lines = text ++ rest.0; goes = lines_both asked false s.names 1 start h.made h.last p.made p.last text rest.0 h.goes rest.1; ends = ends_behind h.made s.schedule h.more p.made p.last p.stuck h.are_first p.ends; written = refl })
+            (append_assoc first text (rest.0 ++ line) ∙ ap (λ t. first ++ t) (sym (append_assoc text rest.0 line))),
+      )
+
+  pub journal_due : (asked : Asked) (s : Scenario) (text : List ℕ) → IsJournalDue asked s text → (more : List ℕ) × (status : ℕ) × Journaled asked s (text ++ more) status
+  journal_due asked s text (inl (inl begins)) = given_begun asked s text begins
+  journal_due asked s text (inl (inr (start, first, rest, given, begins, is))) =
+      let whole = schedule_begun asked s start first rest given begins in
+      (whole.0, whole.1, subst (λ t. Journaled asked s (t ++ whole.0) whole.1) (sym is) whole.2)
+  journal_due asked s text (inr (status, shows)) = ([], status, subst (λ t. Journaled asked s t status) (sym (append-nil text)) shows)
+
+  journal_of : (asked : Asked) (s : Scenario) → (out : List ℕ) × (status : ℕ) × Journaled asked s out status
   journal_of asked s =
       let p = played s [] (before_given s) refl s.given in
-      journal_after asked s p.last p.made p.stuck p.goes p.ends
+      let lines = lines_of s.scripts asked true s.names 1 (before_given s) p.made p.last ([], refl) p.goes in
+      let whole = journal_after asked s p.last p.made p.stuck lines.0 lines.1 p.ends in
+      (lines.0 ++ whole.0, whole.1, whole.2)
 
   -- where a given event is stuck
   given_of : (s : Scenario) (at : ℕ) (event : Event) (why : Cause) → IsGivenStuck (before_given s) s.given at event why → IsGivenShown s (given_text s.names at why event) 3
   given_of s at event why stuck = record { at = at; event = event; why = why; stuck = stuck; written = refl; ends = refl }
 
+  run_or_given : (trace : Bool) (lines : ReplicaLines) (events : List Event) (s : Scenario) → (out : List ℕ) × (status : ℕ) × ShowsRun trace lines events s out status
+  run_or_given trace lines events s =
+      elim ((led_or_stuck s.scripts (before_given s) s.given ([], refl)).0) [
+        | inl (start, led) ↦ run_of trace lines events s start led
+        | inr (at, event, why, stuck) ↦ (given_text s.names at why event, 3, inr (given_of s at event why stuck))
+      ]
+
   shown_of : (view : View) (s : Scenario) → (out : List ℕ) × (status : ℕ) × Shows view s out status
   shown_of Check s = (counts_text s, 0, (refl, refl))
   shown_of Print s = (canon s, 0, (refl, refl))
-  shown_of (Run trace) s =
-      elim ((led_or_stuck s.scripts (before_given s) s.given ([], refl)).0) [
-        | inl (start, led) ↦ run_of trace s start led
-        | inr (at, event, why, stuck) ↦ (given_text s.names at why event, 3, inr (given_of s at event why stuck))
-      ]
-  shown_of (Document n) s =
-      elim ((led_or_stuck s.scripts (before_given s) s.given ([], refl)).0) [
-        | inl (start, led) ↦ view_of n s start led
-        | inr (at, event, why, stuck) ↦ (given_text s.names at why event, 3, inr (given_of s at event why stuck))
-      ]
+  shown_of (Run trace) s = run_or_given trace Dumps s.schedule s
+  shown_of (Document n) s = run_or_given false Documents (take n s.schedule) s
   shown_of (Journal trace effects) s = journal_of (record { rules = trace; effects = effects }) s
 
 refused_of : (bytes : List ℕ) (fault : ScenarioFault) → IsFault bytes fault → (out : List ℕ) × (status : ℕ) × IsRefused fault out status

@@ -1,24 +1,20 @@
 -- About ViewOutput: what was written before a fault. The functions of `run` and `alone` use it.
-use Rattle.std.proofs.Common.{◌≡◌, ◌⊎◌, ℕ, ◌+◌, ◌<◌, ◌≤◌, inl, inr, List, [], ◌∷◌, ◌++◌, length, take, drop, get_or, Bool, Option, Some, None, Result, Ok, Err, IfOk, OnErr, vec_len, refl, ap, sym, ◌∙◌, subst, append_assoc, arith}
+use Rattle.std.proofs.Common.{◌≡◌, ℕ, ◌+◌, ◌<◌, ◌≤◌, inl, List, [], ◌∷◌, ◌++◌, length, take, drop, get_or, Bool, Option, Some, None, Result, Ok, Err, IfOk, OnErr, vec_len, refl, ap, sym, ◌∙◌, subst, append_assoc, arith}
 use Rattle.std.proofs.lemmas.List.{take-append-drop}
 use Rattle.std.specs.Io.KnownBytes.{Consumes}
 use Rattle.std.specs.declared.alloc.Global.{Global}
 use Rattle.std.specs.declared.vec.Vec.{Vec}
 use Rattle.jc_io.specs.declared.io.ReadFault.{ReadFault}
 use Rattle.jc_rules.specs.declared.operation.Event.{Event}
-use Rattle.jc_rules.specs.State.{State}
 use Rattle.jc_rules.specs.Step.{Network}
 use Rattle.jc_io.specs.Streams.{ConsumesUpTo}
-use Rattle.jc_scenario.specs.WellFormed.{Scenario}
-use Rattle.jc_network.specs.NetworkHistory.{NetworkHistory}
-use Rattle.jc_network.specs.Given.{IsStart, IsStarted}
-use Rattle.jc_io.specs.Written.{Stream, WrotePart, Written, WrittenInPart}
+use Rattle.jc_io.specs.Written.{Stream, WrotePart, WrittenInPart}
 use Rattle.jc_io.proofs.WrittenLemmas.{wrote_none}
 use Rattle.jc_cli.specs.declared.order.View.{View}
 use Rattle.jc_program.specs.declared.fault.WorkFault.TheVariants.{Memory}
 use Rattle.jc_program.specs.Runs.{Made, GoesBy, events_of, events_text}
-use Rattle.jc_program.specs.PlayResult.{WroteAndHolds, WrittenAndHeld}
-use Rattle.jc_program.specs.ViewOutput.{IsNext, Begins, Unfinished, blocks, IsStoppedView}
+use Rattle.jc_program.specs.PlayResult.{WroteAndHolds, WrittenAndHeld, IsNext}
+use Rattle.jc_program.specs.ViewOutput.{Begins, IsStoppedView}
 use Rattle.jc_program.proofs.PlayResultLemmas.{goes_on, events_of-append, split_here, shown_more, held_part_more}
 
 -- the events that were made
@@ -48,25 +44,6 @@ next_begun trace names first now es i n made held text a b c d goes taken inside
       },
       subst (λ l. WrotePart l a c) (ap (λ l. events_text trace names 1 made ++ l) is ∙ sym (shown_more trace names made e rows n count)) (held_part_more (events_text trace names 1 made) text held a b c wrote part),
     )
-
--- the events that a network began at the start are those of its scenario
-pub begins_from : (trace : Bool) (s : Scenario) (first : NetworkHistory) (schedule wanted : List Event) (text : List ℕ) → first.names ≡ s.names → schedule ≡ wanted → Begins trace first.names first.history.now schedule text → Begins trace s.names first.history.now wanted text
-begins_from trace s first schedule wanted text names events h =
-    subst (λ (ns : List (List ℕ)). Begins trace ns first.history.now wanted text) names (subst (λ (es : List Event). Begins trace first.names first.history.now es text) events h)
-
--- whole texts of what is played from the start, and not all; or nothing
-abbrev pub Unended : Bool → Scenario → List Event → (List State → List ℕ) → List ℕ → Type 0
-Unended trace s wanted lines text = (text ≡ []) ⊎ ((start : Network) × IsStart s start × Unfinished trace s.names start wanted lines text)
-
-module _ (trace : Bool) (s : Scenario) (wanted : List Event) (lines : List State → List ℕ) where
-  -- without memory up to the start
-  pub unstarted : (a b : Stream) → b ≡ a → Written (Unended trace s wanted lines) a b
-  unstarted a b same = ([], inl refl, wrote_none a b same)
-
-  -- and while events are made
-  pub events_stand : (first : NetworkHistory) (schedule : List Event) (a b : Stream) → IsStarted s first → schedule ≡ wanted → Written (Begins trace first.names first.history.now schedule) a b → Written (Unended trace s wanted lines) a b
-  events_stand first schedule a b from same h =
-      (h.0, inr (first.history.now, from.start, blocks (begins_from trace s first schedule wanted h.0 from.names same h.1)), h.2)
 
 -- ---- views of bytes
 

@@ -1,32 +1,29 @@
--- About ViewText (Run): runs of scenarios, whole or up to a fault. `run_through` uses it.
-use Rattle.std.proofs.Common.{◌≡◌, ℕ, ◌<◌, inl, inr, List, ◌++◌, length, take, Bool, Option, Some, None, refl, sym, ◌∙◌, ap, subst, append-nil}
+-- About ViewText (RanThrough): runs of scenarios, whole or up to a fault. `run_through` uses it.
+use Rattle.std.proofs.Common.{◌≡◌, ℕ, ◌<◌, inl, inr, List, [], ◌++◌, length, take, Bool, Option, Some, None, refl, sym, ◌∙◌, ap, subst, append-nil}
 use Rattle.jc_rules.specs.declared.operation.Event.{Event}
 use Rattle.jc_rules.specs.Refused.{Cause}
-use Rattle.jc_rules.specs.State.{State}
 use Rattle.jc_scenario.specs.WellFormed.{Scenario}
 use Rattle.jc_network.specs.declared.fault.Stuck.{Stuck as StuckEvent}
 use Rattle.jc_network.specs.NetworkHistory.{NetworkHistory}
 use Rattle.jc_network.specs.Given.{IsStarted}
 use Rattle.jc_network.specs.Steps.{stuck_for}
 use Rattle.jc_dump.specs.Lines.{stuck_text}
-use Rattle.jc_dump.specs.Texts.{dumps_text}
 use Rattle.jc_io.specs.Written.{Stream, Wrote, WrotePart, Written, WrittenInPart}
-use Rattle.jc_io.proofs.WrittenLemmas.{wrote_both, part_after, part_of_longer}
-use Rattle.jc_cli.specs.declared.order.View.TheVariants.{Run}
-use Rattle.jc_program.specs.ViewOutput.{Begins, IsRunDue, first_lines, all_lines}
-use Rattle.jc_program.specs.PlayResult.{Tells, PlaysAll}
-use Rattle.jc_program.specs.ViewText.{RanThrough, Shows}
+use Rattle.jc_io.proofs.WrittenLemmas.{wrote_none, wrote_both, part_after, part_of_longer}
+use Rattle.jc_program.specs.declared.run.ReplicaLines.{ReplicaLines}
+use Rattle.jc_program.specs.ReplicaLines.{lines_text}
+use Rattle.jc_program.specs.ViewOutput.{Begins, IsRunUnfinished, blocks, first_lines, all_lines}
+use Rattle.jc_program.specs.PlayResult.{Tells, PlaysAll, IsRunDue}
+use Rattle.jc_program.specs.ViewText.{RanThrough, ShowsRun}
 use Rattle.jc_program.specs.Runs.{Stuck, Plays, stuck_line, status_of}
-use Rattle.jc_program.proofs.ViewOutputLemmas.{Unended, begins_from}
-use Rattle.jc_program.proofs.PlayResultLemmas.{ran}
 
-pub tells_none : (names : List (List ℕ)) (answer : Option StuckEvent) (stuck : Option Stuck) → answer ≡ None → Tells names answer stuck → stuck ≡ None
+tells_none : (names : List (List ℕ)) (answer : Option StuckEvent) (stuck : Option Stuck) → answer ≡ None → Tells names answer stuck → stuck ≡ None
 tells_none names None None e t = refl
 tells_none names None (Some x) e t = absurd t
 tells_none names (Some s) stuck e t = cc
 
 -- the line that is written for a stuck event is its line
-pub tells_line : (names : List (List ℕ)) (answer : Option StuckEvent) (stuck : Option Stuck) (s : StuckEvent) (line : List ℕ) → answer ≡ Some s → Tells names answer stuck → ((why : Cause) (event : Event) → s ≡ stuck_for why event → line ≡ stuck_text names why event) → (line ≡ stuck_line names stuck) × (status_of stuck ≡ 3)
+tells_line : (names : List (List ℕ)) (answer : Option StuckEvent) (stuck : Option Stuck) (s : StuckEvent) (line : List ℕ) → answer ≡ Some s → Tells names answer stuck → ((why : Cause) (event : Event) → s ≡ stuck_for why event → line ≡ stuck_text names why event) → (line ≡ stuck_line names stuck) × (status_of stuck ≡ 3)
 tells_line names None stuck s line e t f = cc
 tells_line names (Some r) None s line e t f = absurd t
 tells_line names (Some r) (Some (event, why)) s line e t f =
@@ -38,75 +35,96 @@ tells_some names None stuck s e t = cc
 tells_some names (Some r) None s e t = absurd t
 tells_some names (Some r) (Some x) s e t = (x, refl)
 
--- What was executed of a schedule, and the lines of the replicas after it, where one text is missing.
-module _ (trace : Bool) (s : Scenario) (wanted : List Event) (lines_text : List (List ℕ) → List State → List ℕ) (first last : NetworkHistory) (schedule : List Event) (a b : Stream) (answer : Option StuckEvent) (from : IsStarted s first) (events : schedule ≡ wanted) (h : PlaysAll trace first last schedule a b answer) where
-  abbrev lines : List State → List ℕ
-  lines = lines_text s.names
+module _ (trace : Bool) (lines : ReplicaLines) (wanted : List Event) (s : Scenario) where
+  -- without memory up to the start nothing was written
+  pub unstarted : (a b : Stream) → b ≡ a → Written (IsRunUnfinished trace lines wanted s) a b
+  unstarted a b same = ([], inl refl, wrote_none a b same)
 
-  names : last.names ≡ s.names
-  names = h.names ∙ from.names
+  module _ (first : NetworkHistory) (schedule : List Event) (from : IsStarted s first) (events : schedule ≡ wanted) where
+    -- the events that a network began at the start are those of its scenario
+    begins_from : (text : List ℕ) → Begins trace first.names first.history.now schedule text → Begins trace s.names first.history.now wanted text
+    begins_from text h =
+        subst (λ (ns : List (List ℕ)). Begins trace ns first.history.now wanted text) from.names (subst (λ (es : List Event). Begins trace first.names first.history.now es text) events h)
 
-  plays : Plays trace s.names first.history.now wanted last.history.now h.stuck h.text
-  plays =
-      let there = subst (λ (es : List Event). Plays trace first.names first.history.now es last.history.now h.stuck h.text) events h.plays in
-      subst (λ (ns : List (List ℕ)). Plays trace ns first.history.now wanted last.history.now h.stuck h.text) from.names there
+    -- the blocks of some events are there
+    pub events_stand : (a b : Stream) → Written (Begins trace first.names first.history.now schedule) a b → Written (IsRunUnfinished trace lines wanted s) a b
+    events_stand a b h = (h.0, inr (first.history.now, from.start, blocks (begins_from h.0 h.1)), h.2)
 
-  -- the lines of some replicas are there
-  pub replicas_stand : (c : Stream) → ((n : ℕ) × (n < length last.history.now.states) × Wrote (lines_text last.names (take n last.history.now.states)) b c) → Written (Unended trace s wanted lines) a c
-  replicas_stand c (n, inside, wrote) =
-      let own = subst (λ (ns : List (List ℕ)). Wrote (lines_text ns (take n last.history.now.states)) b c) names wrote in
-      (h.text ++ lines (take n last.history.now.states), inr (first.history.now, from.start, first_lines last.history.now h.stuck n plays inside), wrote_both a b c h.text (lines (take n last.history.now.states)) h.written own)
+    -- a block was begun
+    pub events_cut : (a b : Stream) → WrittenInPart (Begins trace first.names first.history.now schedule) a b → WrittenInPart (IsRunDue trace lines wanted s) a b
+    events_cut a b h = (h.0, inl (first.history.now, from.start, begins_from h.0 h.1), h.2)
 
-  -- those of all, but not the line of the stuck event
-  pub all_stand : (c : Stream) (r : StuckEvent) → answer ≡ Some r → Wrote (lines_text last.names last.history.now.states) b c → Written (Unended trace s wanted lines) a c
-  all_stand c r some wrote =
-      let x = tells_some first.names answer h.stuck r some h.tells in
-      let own = subst (λ (ns : List (List ℕ)). Wrote (lines_text ns last.history.now.states) b c) names wrote in
-      (h.text ++ lines last.history.now.states, inr (first.history.now, from.start, all_lines last.history.now x.0 (subst (λ (o : Option Stuck). Plays trace s.names first.history.now wanted last.history.now o h.text) x.1 plays)), wrote_both a b c h.text (lines last.history.now.states) h.written own)
+    -- ---- the events were executed
 
-module _ (trace : Bool) (s : Scenario) (first last : NetworkHistory) (schedule : List Event) (a b : Stream) (answer : Option StuckEvent) (from : IsStarted s first) (events : schedule ≡ s.schedule) (h : PlaysAll trace first last schedule a b answer) where
-  abbrev dumps : List ℕ
-  dumps = dumps_text last.names last.history.now.states
+    module _ (last : NetworkHistory) (a b : Stream) (answer : Option StuckEvent) (h : PlaysAll trace first last schedule a b answer) where
+      names : last.names ≡ s.names
+      names = h.names ∙ from.names
 
-  abbrev shown : List ℕ
-  shown = h.text ++ dumps ++ stuck_line last.names h.stuck
+      plays : Plays trace s.names first.history.now wanted last.history.now h.stuck h.text
+      plays =
+          let there = subst (λ (es : List Event). Plays trace first.names first.history.now es last.history.now h.stuck h.text) events h.plays in
+          subst (λ (ns : List (List ℕ)). Plays trace ns first.history.now wanted last.history.now h.stuck h.text) from.names there
 
-  whole : RanThrough trace s shown (status_of h.stuck)
-  whole = ran trace s first last schedule a b answer from events h shown refl
+      abbrev all : List ℕ
+      all = lines_text lines last.names last.history.now.states
 
-  told : Tells last.names answer h.stuck
-  told = subst (λ ns. Tells ns answer h.stuck) (sym h.names) h.tells
+      abbrev shown : List ℕ
+      shown = h.text ++ all ++ stuck_line last.names h.stuck
 
-  -- to its end
-  pub ended : (c : Stream) → answer ≡ None → Wrote dumps b c → Written (λ text. Shows (Run trace) s text 0) a c
-  ended c none dumped =
-      let is = tells_none last.names answer h.stuck none told in
-      let status : status_of h.stuck ≡ 0 = ap status_of is in
-      let same : shown ≡ h.text ++ dumps = ap (λ x. h.text ++ dumps ++ stuck_line last.names x) is ∙ append-nil (h.text ++ dumps) in (
-        h.text ++ dumps,
-        inl (subst (λ n. RanThrough trace s (h.text ++ dumps) n) status (subst (λ t. RanThrough trace s t (status_of h.stuck)) same whole)),
-        wrote_both a b c h.text dumps h.written dumped,
-      )
+      whole : RanThrough trace lines wanted s shown (status_of h.stuck)
+      whole = record {
+        start = first.history.now;
+        is_start = from.start;
+        last = last.history.now;
+        stuck = h.stuck;
+        blocks = h.text;
+        plays = plays;
+        written = ap (λ ns. h.text ++ lines_text lines ns last.history.now.states ++ stuck_line ns h.stuck) names;
+        ends = refl;
+      }
 
-  -- and up to a stuck event
-  pub stopped : (c d : Stream) (r : StuckEvent) (line : List ℕ) → answer ≡ Some r → ((why : Cause) (event : Event) → r ≡ stuck_for why event → line ≡ stuck_text last.names why event) → Wrote dumps b c → Wrote line c d → Written (λ text. Shows (Run trace) s text 3) a d
-  stopped c d r line some f dumped lined =
-      let is = tells_line last.names answer h.stuck r line some told f in (
-        shown,
-        inl (subst (λ n. RanThrough trace s shown n) is.1 whole),
-        subst (λ t. Wrote (h.text ++ dumps ++ t) a d) is.0 (wrote_both a c d (h.text ++ dumps) line (wrote_both a b c h.text dumps h.written dumped) lined),
-      )
+      told : Tells last.names answer h.stuck
+      told = subst (λ ns. Tells ns answer h.stuck) (sym h.names) h.tells
 
-  -- a dump was begun
-  pub dumping : (c : Stream) → WrotePart dumps b c → WrittenInPart (IsRunDue trace s) a c
-  dumping c part = (shown, inr (status_of h.stuck, inl whole), part_of_longer a c (h.text ++ dumps) (stuck_line last.names h.stuck) (part_after a b c h.text dumps h.written part))
+      -- the lines of some replicas are there
+      pub replicas_stand : (c : Stream) → ((n : ℕ) × (n < length last.history.now.states) × Wrote (lines_text lines last.names (take n last.history.now.states)) b c) → Written (IsRunUnfinished trace lines wanted s) a c
+      replicas_stand c (n, inside, wrote) =
+          let own = subst (λ (ns : List (List ℕ)). Wrote (lines_text lines ns (take n last.history.now.states)) b c) names wrote in
+          (h.text ++ lines_text lines s.names (take n last.history.now.states), inr (first.history.now, from.start, first_lines last.history.now h.stuck n plays inside), wrote_both a b c h.text (lines_text lines s.names (take n last.history.now.states)) h.written own)
 
-  -- and the line of the stuck event
-  pub telling : (c d : Stream) (r : StuckEvent) (line : List ℕ) → answer ≡ Some r → ((why : Cause) (event : Event) → r ≡ stuck_for why event → line ≡ stuck_text last.names why event) → Wrote dumps b c → WrotePart line c d → WrittenInPart (IsRunDue trace s) a d
-  telling c d r line some f dumped part =
-      let is = tells_line last.names answer h.stuck r line some told f in
-      (shown, inr (status_of h.stuck, inl whole), subst (λ t. WrotePart (h.text ++ dumps ++ t) a d) is.0 (part_after a c d (h.text ++ dumps) line (wrote_both a b c h.text dumps h.written dumped) part))
+      -- those of all, but not the line of the stuck event
+      pub all_stand : (c : Stream) (r : StuckEvent) → answer ≡ Some r → Wrote all b c → Written (IsRunUnfinished trace lines wanted s) a c
+      all_stand c r some wrote =
+          let x = tells_some first.names answer h.stuck r some h.tells in
+          let own = subst (λ (ns : List (List ℕ)). Wrote (lines_text lines ns last.history.now.states) b c) names wrote in
+          (h.text ++ lines_text lines s.names last.history.now.states, inr (first.history.now, from.start, all_lines last.history.now x.0 (subst (λ (o : Option Stuck). Plays trace s.names first.history.now wanted last.history.now o h.text) x.1 plays)), wrote_both a b c h.text (lines_text lines s.names last.history.now.states) h.written own)
 
--- a block was begun
-pub playing : (trace : Bool) (s : Scenario) (first : NetworkHistory) (schedule : List Event) (a b : Stream) → IsStarted s first → schedule ≡ s.schedule → WrittenInPart (Begins trace first.names first.history.now schedule) a b → WrittenInPart (IsRunDue trace s) a b
-playing trace s first schedule a b from same h = (h.0, inl (first.history.now, from.start, begins_from trace s first schedule s.schedule h.0 from.names same h.1), h.2)
+      -- to its end
+      pub ended : (c : Stream) → answer ≡ None → Wrote all b c → Written (λ text. ShowsRun trace lines wanted s text 0) a c
+      ended c none wrote =
+          let is = tells_none last.names answer h.stuck none told in
+          let status : status_of h.stuck ≡ 0 = ap status_of is in
+          let same : shown ≡ h.text ++ all = ap (λ x. h.text ++ all ++ stuck_line last.names x) is ∙ append-nil (h.text ++ all) in (
+            h.text ++ all,
+            inl (subst (λ n. RanThrough trace lines wanted s (h.text ++ all) n) status (subst (λ t. RanThrough trace lines wanted s t (status_of h.stuck)) same whole)),
+            wrote_both a b c h.text all h.written wrote,
+          )
+
+      -- and up to a stuck event
+      pub stopped : (c d : Stream) (r : StuckEvent) (line : List ℕ) → answer ≡ Some r → ((why : Cause) (event : Event) → r ≡ stuck_for why event → line ≡ stuck_text last.names why event) → Wrote all b c → Wrote line c d → Written (λ text. ShowsRun trace lines wanted s text 3) a d
+      stopped c d r line some f wrote lined =
+          let is = tells_line last.names answer h.stuck r line some told f in (
+            shown,
+            inl (subst (λ n. RanThrough trace lines wanted s shown n) is.1 whole),
+            subst (λ t. Wrote (h.text ++ all ++ t) a d) is.0 (wrote_both a c d (h.text ++ all) line (wrote_both a b c h.text all h.written wrote) lined),
+          )
+
+      -- a line was begun
+      pub lines_cut : (c : Stream) → WrotePart all b c → WrittenInPart (IsRunDue trace lines wanted s) a c
+      lines_cut c part = (shown, inr (status_of h.stuck, inl whole), part_of_longer a c (h.text ++ all) (stuck_line last.names h.stuck) (part_after a b c h.text all h.written part))
+
+      -- and the line of the stuck event
+      pub stuck_cut : (c d : Stream) (r : StuckEvent) (line : List ℕ) → answer ≡ Some r → ((why : Cause) (event : Event) → r ≡ stuck_for why event → line ≡ stuck_text last.names why event) → Wrote all b c → WrotePart line c d → WrittenInPart (IsRunDue trace lines wanted s) a d
+      stuck_cut c d r line some f wrote part =
+          let is = tells_line last.names answer h.stuck r line some told f in
+          (shown, inr (status_of h.stuck, inl whole), subst (λ t. WrotePart (h.text ++ all ++ t) a d) is.0 (part_after a c d (h.text ++ all) line (wrote_both a b c h.text all h.written wrote) part))

@@ -1,5 +1,5 @@
 -- The journal of a scenario: a line for each event, the given events first. ViewText says by it what `journal` prints,
--- and ViewOutput what of it stands after a fault.
+-- and ViewOutput what of it stands without memory.
 use Rattle.std.specs.Prelude.{◌≡◌, ◌⊎◌, ℕ, ◌+◌, List, [], ◌∷◌, ◌++◌, length, Bool, true, false, Option, Some, None}
 use Rattle.jc_rules.specs.declared.operation.Event.{Event}
 use Rattle.jc_rules.specs.declared.rule.Rule.{Rule}
@@ -74,25 +74,6 @@ pub data Journaled (asked : Asked) (s : Scenario) (out : List ℕ) : ℕ → Typ
       → Journaled asked s out (status_of stuck)
 
 -- ---- the lines of some first events
-
--- The first events lead from the network to another, and the text has their lines.
-pub record JournalBegins
-    (asked : Asked) (given : Bool) (names : List (List ℕ)) (network : Network) (events : List Event) (text : List ℕ)
-    : Type 0 where
-  pub made : List Made
-  pub more : List Event
-  pub last : Network
-  pub goes : JournalBy asked given names 1 network made last text
-  pub are_first : events ≡ events_of made ++ more
-
--- the lines of some first given events of a scenario, or those of all and of some first events of its schedule
-abbrev pub AreFirstLines : Asked → Scenario → List ℕ → Type 0
-AreFirstLines asked s text =
-    JournalBegins asked true s.names (before_given s) s.given text
-    ⊎ ((start : Network) × (first rest : List ℕ)
-    × JournalOf asked true s.names (before_given s) s.given start None first
-    × JournalBegins asked false s.names start s.schedule rest
-    × (text ≡ first ++ rest))
 
 -- The text has the lines of some first events, and there is a next event, whose line it lacks.
 pub record JournalStops

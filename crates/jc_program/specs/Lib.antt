@@ -5,6 +5,7 @@ pub mod Recordings
 pub mod Texts
 pub mod Runs
 pub mod Journals
+pub mod ReplicaLines
 pub mod ViewText
 pub mod ViewOutput
 pub mod Found

@@ -1,14 +1,21 @@
 -- What `play` and what it calls return and write: the contracts in `run` cite it.
-use Rattle.std.specs.Prelude.{◌≡◌, ℕ, List, ◌++◌, Bool, Option, Some, None, length}
+use Rattle.std.specs.Prelude.{◌≡◌, ◌⊎◌, ℕ, List, ◌++◌, Bool, Option, Some, None, length}
 use Rattle.jc_rules.specs.declared.operation.Event.{Event}
+use Rattle.jc_rules.specs.declared.rule.Rule.{Rule}
+use Rattle.jc_rules.specs.Step.{Network, StepIn}
 use Rattle.jc_rules.specs.Trace.{Rows}
 use Rattle.jc_printer.specs.Canon.{AreNamed}
+use Rattle.jc_scenario.specs.WellFormed.{Scenario}
 use Rattle.jc_network.specs.declared.fault.Stuck.{Stuck as StuckEvent}
+use Rattle.jc_network.specs.Given.{IsStart}
 use Rattle.jc_network.specs.NetworkHistory.{NetworkHistory, StepsTo}
 use Rattle.jc_network.specs.Steps.{IsStuckFor, stuck_for}
 use Rattle.jc_io.specs.Written.{Stream, Wrote}
 use Rattle.jc_program.specs.Texts.{event_text}
 use Rattle.jc_program.specs.Runs.{Stuck, Plays}
+use Rattle.jc_program.specs.declared.run.ReplicaLines.{ReplicaLines}
+use Rattle.jc_program.specs.ViewText.{ShowsRun}
+use Rattle.jc_program.specs.ViewOutput.{Begins}
 
 -- The text was written, but for an end of it that is still held.
 abbrev pub WroteAndHolds : List ℕ → List ℕ → Stream → Stream → Type 0
@@ -17,6 +24,12 @@ WroteAndHolds text held a b = (sent : List ℕ) × (text ≡ sent ++ held) × Wr
 -- a text of this kind was written, but for an end of it that is still held
 abbrev pub WrittenAndHeld : (List ℕ → Type 0) → List ℕ → Stream → Stream → Type 0
 WrittenAndHeld IsText held a b = (text : List ℕ) × IsText text × WroteAndHolds text held a b
+
+-- the text of the next event, whose number is n
+abbrev pub IsNext : Bool → List (List ℕ) → Network → Event → ℕ → List ℕ → Type 0
+IsNext trace names network event n text =
+    (rows : List (Rule × ℕ)) × (new : Network)
+    × StepIn network event new rows × (text ≡ event_text trace names n event rows)
 
 -- The event was executed, and its text follows what was held; or it is stuck, and nothing changed.
 abbrev pub PlaysNext
@@ -44,3 +57,9 @@ pub record PlaysAll
   pub tells : Tells old.names answer stuck
   pub names : new.names ≡ old.names
   pub written : Wrote text a b
+
+-- the first events of a run, and their text; or the text of a whole one
+abbrev pub IsRunDue : Bool → ReplicaLines → List Event → Scenario → List ℕ → Type 0
+IsRunDue trace lines events s text =
+    ((start : Network) × IsStart s start × Begins trace s.names start events text)
+    ⊎ ((status : ℕ) × ShowsRun trace lines events s text status)

@@ -14,9 +14,8 @@ ghost use Rattle.jc_journal.specs.Before.{IsNoted};
 ghost use Rattle.jc_journal.specs.Parts.{rows_of};
 ghost use Rattle.jc_cli.specs.declared.order.View.TheVariants as V;
 ghost use Rattle.jc_io.specs.Written.{sink, Wrote, WrotePart, Written, WrittenInPart};
-ghost use Rattle.jc_program.specs.JournalResult.{asked_by, IsBehind, CatchesUp, IsLineOf, OfStuckLine, JournalsNext, IsNextLine, JournalsAll, AreLinesDue};
+ghost use Rattle.jc_program.specs.JournalResult.{asked_by, IsBehind, CatchesUp, IsLineOf, OfStuckLine, JournalsNext, IsNextLine, JournalsAll, AreLinesDue, IsJournalDue};
 ghost use Rattle.jc_program.specs.Journals.{rows_asked, JournalStops, IsJournalUnfinished};
-ghost use Rattle.jc_program.specs.ViewOutput.{IsJournalDue};
 ghost use Rattle.jc_program.specs.ViewText.{Shows};
 
 use crate::run::{RunFault, send_bytes};

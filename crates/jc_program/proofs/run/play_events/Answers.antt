@@ -3,7 +3,7 @@ use Rattle.jc_rules.specs.declared.operation.Event.TheVariants.{Exec}
 use Rattle.jc_network.specs.NetworkHistory.{NetworkHistory}
 use Rattle.jc_io.specs.Written.{sink, WrotePart}
 use Rattle.jc_session.proofs.SentLemmas.{handed}
-use Rattle.jc_program.specs.ViewOutput.{IsNext}
+use Rattle.jc_program.specs.PlayResult.{IsNext}
 use Rattle.jc_program.proofs.PlayResultLemmas.{made_count, holds_none, holds_less, stops_here, stuck_holds, goes_here, ends_here}
 use Rattle.jc_program.proofs.ViewOutputLemmas.{made_stand, next_begun}
 use Rattle.jc_program.specs.Runs.{GoesBy, events_text}

@@ -1,0 +1,76 @@
+-- About ReplicaLines: lines of replicas that are written one after the other. `send_lines` uses it.
+use Rattle.std.proofs.Common.{◌≡◌, ℕ, zero, suc, ◌+◌, ◌<◌, List, [], ◌∷◌, ◌++◌, length, take, get_or, slice_get, Some, refl, sym, ◌∙◌, ap, subst, append_assoc, append-nil, arith}
+use Rattle.std.proofs.lemmas.Option.{slice_get-get_or, same_Some}
+use Rattle.jc_rules.specs.ReplicaNames.{name_at}
+use Rattle.jc_rules.specs.State.{State, start}
+use Rattle.jc_dump.specs.Dump.{dump_line}
+use Rattle.jc_dump.specs.Texts.{dumps_from, dumps_text}
+use Rattle.jc_view.specs.Visible.{view_line, views_from, views_text}
+use Rattle.jc_io.specs.Written.{Stream, Wrote, WrotePart}
+use Rattle.jc_io.proofs.WrittenLemmas.{wrote_both, part_after, part_of_longer}
+use Rattle.jc_session.proofs.TextsListLemmas.{next_dumps}
+use Rattle.jc_program.specs.declared.run.ReplicaLines.{ReplicaLines}
+use Rattle.jc_program.specs.declared.run.ReplicaLines.TheVariants.{Dumps, Documents}
+use Rattle.jc_program.specs.ReplicaLines.{replica_line, lines_text}
+
+next_views : (names : List (List ℕ)) (n p : ℕ) (network : List State) (A : State) → slice_get network p ≡ Some A → views_from n names (take (suc p) network) ≡ views_from n names (take p network) ++ view_line names (name_at names (n + p)) A
+next_views names n p [] A e = cc
+next_views names n zero (B ∷ network) A e =
+    let same : B ≡ A = same_Some B A e in
+    let number : n ≡ n + 0 = omega arith in
+    append-nil (view_line names (name_at names n) B) ∙ (ap (view_line names (name_at names n)) same ∙ ap (λ k. view_line names (name_at names k) A) number)
+next_views names n (suc p) (B ∷ network) A e =
+    let number : suc n + p ≡ n + suc p = omega arith in
+    ap (λ t. view_line names (name_at names n) B ++ t) (next_views names (suc n) p network A e)
+    ∙ sym (append_assoc (view_line names (name_at names n) B) (views_from (suc n) names (take p network)) _)
+    ∙ ap (λ k. (view_line names (name_at names n) B ++ views_from (suc n) names (take p network)) ++ view_line names (name_at names k) A) number
+
+-- one line more
+lines_more : (lines : ReplicaLines) (names : List (List ℕ)) (p : ℕ) (network : List State) (A : State) → slice_get network p ≡ Some A → lines_text lines names (take (p + 1) network) ≡ lines_text lines names (take p network) ++ replica_line lines names (name_at names p) A
+lines_more Dumps names p network A e =
+    let one : p + 1 ≡ suc p = omega arith in
+    let zero_more : 0 + p ≡ p = omega arith in
+    ap (λ m. dumps_text names (take m network)) one ∙ (next_dumps names 0 p network A e ∙ ap (λ k. dumps_text names (take p network) ++ dump_line names (name_at names k) A) zero_more)
+lines_more Documents names p network A e =
+    let one : p + 1 ≡ suc p = omega arith in
+    let zero_more : 0 + p ≡ p = omega arith in
+    ap (λ m. views_text names (take m network)) one ∙ (next_views names 0 p network A e ∙ ap (λ k. views_text names (take p network) ++ view_line names (name_at names k) A) zero_more)
+
+-- what follows the first dumps
+dumps_split : (n k : ℕ) (names : List (List ℕ)) (network : List State) → (rest : List ℕ) × (dumps_from n names network ≡ dumps_from n names (take k network) ++ rest)
+dumps_split n zero names network = (dumps_from n names network, refl)
+dumps_split n (suc k) names [] = ([], refl)
+dumps_split n (suc k) names (A ∷ network) =
+    let line = dump_line names (name_at names n) A in
+    let later = dumps_split (suc n) k names network in
+    (later.0, ap (λ t. line ++ t) later.1 ∙ sym (append_assoc line (dumps_from (suc n) names (take k network)) later.0))
+
+-- what follows the first lines
+views_split : (n k : ℕ) (names : List (List ℕ)) (network : List State) → (rest : List ℕ) × (views_from n names network ≡ views_from n names (take k network) ++ rest)
+views_split n zero names network = (views_from n names network, refl)
+views_split n (suc k) names [] = ([], refl)
+views_split n (suc k) names (A ∷ network) =
+    let line = view_line names (name_at names n) A in
+    let later = views_split (suc n) k names network in
+    (later.0, ap (λ t. line ++ t) later.1 ∙ sym (append_assoc line (views_from (suc n) names (take k network)) later.0))
+
+lines_split : (lines : ReplicaLines) (k : ℕ) (names : List (List ℕ)) (network : List State) → (rest : List ℕ) × (lines_text lines names network ≡ lines_text lines names (take k network) ++ rest)
+lines_split Dumps k names network = dumps_split 0 k names network
+lines_split Documents k names network = views_split 0 k names network
+
+module _ (lines : ReplicaLines) (names : List (List ℕ)) (network : List State) (p : ℕ) (a b c : Stream) (inside : p < length network) (before : Wrote (lines_text lines names (take p network)) a b) where
+  abbrev here : State
+  here = get_or network p (start [])
+
+  pub lines_go_on : ((A : State) → slice_get network p ≡ Some A → Wrote (replica_line lines names (name_at names p) A) b c) → Wrote (lines_text lines names (take (p + 1) network)) a c
+  lines_go_on next =
+      let there = slice_get-get_or network p (start []) inside in
+      subst (λ t. Wrote t a c) (sym (lines_more lines names p network here there)) (wrote_both a b c (lines_text lines names (take p network)) (replica_line lines names (name_at names p) here) before (next here there))
+
+  -- a line was begun
+  pub lines_begun : ((A : State) → slice_get network p ≡ Some A → WrotePart (replica_line lines names (name_at names p) A) b c) → WrotePart (lines_text lines names network) a c
+  lines_begun next =
+      let there = slice_get-get_or network p (start []) inside in
+      let split = lines_split lines (p + 1) names network in
+      let part = subst (λ t. WrotePart t a c) (sym (lines_more lines names p network here there)) (part_after a b c (lines_text lines names (take p network)) (replica_line lines names (name_at names p) here) before (next here there)) in
+      subst (λ t. WrotePart t a c) (sym split.1) (part_of_longer a c (lines_text lines names (take (p + 1) network)) split.0 part)
