@@ -11,6 +11,7 @@ import json
 import os
 import re
 import selectors
+import shutil
 import signal
 import subprocess
 import sys
@@ -369,7 +370,10 @@ def rules():
     the program has none yet, or isn't there, the rules in Python here."""
     if not hasattr(OF_THREAD, "answering"):
         with BEGINNING:  # so that the program is looked at once
-            OF_THREAD.answering = serving.answering(choosing.program()) or serving.Here()
+            path = choosing.program()
+            if path and not shutil.which(path):
+                stop(f"{path} can't be started")
+            OF_THREAD.answering = serving.answering(path) or serving.Here()
     return OF_THREAD.answering
 
 
@@ -379,6 +383,8 @@ def bring(text):
         return rules(), rules().bring(text)
     except serving.Lost as lost:
         return stop(f"{lost}, and gave no answer", READ_OR_WRITE_FAILED)
+    except serving.Foreign as why:
+        return stop(f"{choosing.program()} isn't jsoncrdt: {why}")
 
 
 def lines_in(answering, request):

@@ -6,6 +6,7 @@ import contextlib
 import copy
 import glob
 import io
+import itertools
 import json
 import os
 import pty
@@ -868,6 +869,33 @@ def debugs_alike(_):
             expect(told_of_each[0] == told_of_each[1] == told_of_each[2], f"{path}: {told_of_each}")
 
 
+# Programs that answer `quit` as serve does, and nothing else so; how a tool ends that asks one, and what it tells.
+STRANGE = '#!/bin/sh\nread line\n[ "$line" = quit ] && { echo \'{"quit":true}\'; exit; }\n'
+STRANGERS = {
+    "other": ("while read line; do echo {}; done\n", 2, "isn't jsoncrdt: it neither took a scenario nor refused it"),
+    "garbled": ("echo no JSON; sleep 60\n", 2, "isn't jsoncrdt: it answered no JSON"),
+    "ended": ("exit 5\n", 4, "ended with 5, and gave no answer"),
+}
+ASKING = ("tools/page examples/first.jsoncrdt", "tools/explore examples/first.jsoncrdt",
+          "tools/why examples/first.jsoncrdt doc", "tools/shrink examples/first.jsoncrdt true",
+          "kit/check --only both-append --jobs 2 --ops oracle/adapter --ops",
+          "kit/campaign --workers 1 --folder results --call oracle/adapter:answer")
+
+
+def asks_strangers(_):
+    """Whoever asks a program that is no jsoncrdt says so in a line."""
+    with folder_of({name: STRANGE + rest for name, (rest, _, _) in STRANGERS.items()}) as folder:
+        for name, words in itertools.product(STRANGERS, ASKING):
+            path, (_, status, told_why) = os.path.join(folder, name), STRANGERS[name]
+            ended = run(words.replace("results", f"{path}.d"), path, shell=True)
+            tool = os.path.basename(words.split()[0])
+            expect_same(ended.stderr.decode(), f"{tool}: {path} {told_why}\n")
+            expect(ended.returncode == status, f"{words}: it ended with {ended.returncode}")
+        for words in ASKING[-2:]:
+            ended = run(words.replace("results", os.path.join(folder, "d")), os.path.join(folder, "none"), shell=True)
+            expect(ended.returncode == 2 and b"/none can't be started\n" in ended.stderr, f"{ended}")
+
+
 def serving():
     for row in WORKED:
         yield worked_case(*row)
@@ -893,4 +921,5 @@ def serving():
     yield "serve: bounds", is_bounded
     yield "serve: at a terminal", at_terminal
     yield "serve: the launcher", launched
+    yield "serve: programs that are none", asks_strangers
     yield "serve: tools/debug through it", debugs_alike

@@ -162,9 +162,9 @@ class Asked:
         except serving.Lost as lost:
             self.brought = None
             return stop(f"{lost}, and gave no answer", READ_OR_WRITE_FAILED)
-        except ValueError:
+        except serving.Foreign as why:
             self.brought = None
-            return stop(f"{program()} isn't jsoncrdt: it answered no JSON")
+            return stop(f"{program()} isn't jsoncrdt: {why}")
 
 
 def unless_refused(answer):

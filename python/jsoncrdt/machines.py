@@ -17,7 +17,7 @@ from typing import Any, NamedTuple
 
 from . import answers, choosing
 from .oracle.program import command_line
-from .serving import Lost, Process, has_serve, line_of_refusal, with_room
+from .serving import Foreign, Lost, Process, has_serve, line_of_refusal, with_room
 
 REFUSED, STUCK = 1, 3
 LONGEST_CALL = 600  # seconds
@@ -92,7 +92,7 @@ class Program:
         try:
             with pool_of(self.path).one() as served:
                 return Conversation(served, text).told(words)
-        except (Lost, ValueError) as fault:
+        except (Lost, Foreign) as fault:
             raise answers.NoAnswer(f"{self.path}: {fault}") from fault
 
     def call(self, words, text):

@@ -24,6 +24,10 @@ class Lost(Exception):
     """Why there is no answer, in a sentence. What was asked about has to be brought once more."""
 
 
+class Foreign(Exception):
+    """Why what answered is no `serve`, in a few words."""
+
+
 def with_room(call, *arguments):
     """What the call gives. Documents may be deeper than the frames that Python allows at first."""
     before = sys.getrecursionlimit()
@@ -32,6 +36,14 @@ def with_room(call, *arguments):
         return call(*arguments)
     finally:
         sys.setrecursionlimit(before)
+
+
+def value_of(line):
+    """The value that an answer is."""
+    try:
+        return with_room(json.loads, line)
+    except ValueError:
+        raise Foreign("it answered no JSON") from None
 
 
 def line_of(request):
@@ -66,11 +78,14 @@ class Answering:
     """Answers requests, about one scenario at a time, by values of JSON; a refusal is one with the member `refused`."""
 
     def ask(self, request):
-        return with_room(json.loads, self.answer(line_of(request)))
+        return value_of(self.answer(line_of(request)))
 
     def bring(self, text):
         """Brings a scenario, and gives the answer."""
-        return json.loads(self.answer(b"%s%d" % (BRINGS.encode(), len(text)), text))
+        counts = value_of(self.answer(b"%s%d" % (BRINGS.encode(), len(text)), text))
+        if not (isinstance(counts, dict) and counts.keys() & {"commands", "refused"}):
+            raise Foreign("it neither took a scenario nor refused it")
+        return counts
 
     def is_ready(self):
         """Whether what was brought is still there."""
