@@ -24,7 +24,7 @@ use jc_effects::{Effects, write_effects};
 use jc_json::write_ids;
 use jc_network::Net;
 use jc_replica::Replica;
-use jc_rules::{Event, Op, Rule, Text, Trace, name_at};
+use jc_rules::{Event, Op, Rule, Text, name_at};
 use jc_tree::ArenaTree;
 use json::Writer;
 use std::alloc::{AllocError, Global};
@@ -44,7 +44,7 @@ pub struct NumberedEvent {
 struct Told<'a> {
     numbered: &'a NumberedEvent,
     before: &'a Before,
-    rules: Option<&'a Trace>,
+    rules: Option<&'a [(Rule, u64)]>,
     effects: Option<&'a Effects>,
 }
 
@@ -159,18 +159,18 @@ fn write_rule(rule: Rule, depth: u64, out: &mut Writer) -> Result<(), AllocError
 }
 
 /// Writes the rules of a trace as a list.
-fn write_rows(rules: &Trace, out: &mut Writer) -> Result<(), AllocError>
-    ensures { OnOk result (Gains out.old out.new (T.begin_array ∷ items_tokens (rule_items rules.now.rows))) }
+fn write_rows(rules: &[(Rule, u64)], out: &mut Writer) -> Result<(), AllocError>
+    ensures { OnOk result (Gains out.old out.new (T.begin_array ∷ items_tokens (rule_items rules.now))) }
 {
     out.begin_array()?;
-    for (rule, depth) in rules.rows() {
+    for (rule, depth) in rules {
         write_rule(*rule, *depth, out)?;
     }
     out.end_array()
 }
 
 /// Writes the rules of the event, where they are asked for.
-fn write_rules(rules: Option<&Trace>, out: &mut Writer) -> Result<(), AllocError>
+fn write_rules(rules: Option<&[(Rule, u64)]>, out: &mut Writer) -> Result<(), AllocError>
     ensures { OnOk result (Gains out.old out.new (member_tokens (rules_member (rows_of rules.entry)))) }
 {
     match rules {
@@ -236,7 +236,7 @@ pub fn event_line(
     net: &Net,
     numbered: &NumberedEvent,
     before: &Before,
-    rules: Option<&Trace>,
+    rules: Option<&[(Rule, u64)]>,
     effects: Option<&Effects>,
 ) -> Result<Vec<u8>, AllocError>
     requires { AreNamed numbered.now.event (length net.now.names) }
