@@ -1,22 +1,18 @@
 -- The breakpoints of `serve`, what they name, and how its runs end. Those that a session has too name what they name
 -- there.
-use Rattle.std.specs.Prelude.{◌≡◌, ℕ, ◌+◌, ◌≤◌, ◌<◌, if◌then◌else◌, Bool, true, List, [], ◌∷◌, ◌++◌, length, take, replicate, slice_get, slice_set, Option, Some, None}
+use Rattle.std.specs.Prelude.{◌≡◌, ℕ, ◌+◌, ◌≤◌, ◌<◌, Bool, true, List, [], ◌∷◌, ◌++◌, length, take, replicate, slice_get, slice_set, Option, Some, None}
 use Rattle.jc_rules.specs.declared.id.Id.{Id}
-use Rattle.jc_rules.specs.declared.key.Key.{Key}
-use Rattle.jc_rules.specs.declared.key.Tagged.{Tagged}
-use Rattle.jc_rules.specs.declared.key.Tagged.TheVariants.{MapT, ListT, RegT}
 use Rattle.jc_rules.specs.declared.limits.TheConstants.{MAX_BREAKS}
 use Rattle.jc_rules.specs.declared.operation.Cursor.{Cursor}
 use Rattle.jc_rules.specs.declared.operation.Event.{Event}
 use Rattle.jc_rules.specs.declared.operation.Op.{Op}
 use Rattle.jc_rules.specs.declared.rule.Rule.{Rule}
-use Rattle.jc_rules.specs.Context.{key_of_tagged}
-use Rattle.jc_rules.specs.Order.{same_key}
 use Rattle.jc_rules.specs.State.{State}
 use Rattle.jc_rules.specs.Step.{Network, replica_of}
 use Rattle.jc_debug.specs.declared.breaks.Break.{Break}
 use Rattle.jc_debug.specs.DebuggerState.{Session, IsNetworkAt, MakesEvent, IsStuckAt, IsLeast, Names, RunOutcome, breaks, sticks, ends}
-use Rattle.jc_effects.specs.Difference.{Differences, no_difference, difference, is_listed, IsDifference}
+use Rattle.jc_effects.specs.Difference.{Differences, IsDifference}
+use Rattle.jc_effects.specs.Places.{differs_at}
 use Rattle.jc_journal.specs.EventLine.{event_op}
 
 -- One that a session has too; that of an operation; that of a place of a replica's document.
@@ -52,24 +48,6 @@ session_in A = record { schedule = A.schedule; position = A.position; breaks = r
 -- where a session's request has led, with the breakpoints as they were
 abbrev pub after_session : Served → Session → Served
 after_session A B = record A { schedule = B.schedule; position = B.position }
-
--- ---- what differs at a place
-
-abbrev pub part_under : Tagged → Differences → Differences → Differences
-part_under (MapT k) m l = m
-part_under (ListT k) m l = l
-part_under (RegT k) m l = no_difference
-
--- what differs in the map or the list under a tagged key
-abbrev pub differences_under : Tagged → Differences → Differences
-differences_under t no_difference = no_difference
-differences_under t (difference k o m l rest) =
-    if same_key (key_of_tagged t) k then part_under t m l else differences_under t rest
-
--- something differs at the key, in the maps and lists of the path, or below it
-abbrev pub differs_at : List Tagged → Key → Differences → Bool
-differs_at [] k x = is_listed k x
-differs_at (t ∷ ts) k x = differs_at ts k (differences_under t x)
 
 -- ---- what breakpoints name
 
