@@ -2,29 +2,26 @@
 
 ghost use Rattle.std.specs.Prelude.{◌≡◌};
 ghost use Rattle.jc_effects.specs.Difference.{is_listed};
-ghost use Rattle.jc_effects.specs.Parts.{differences_of};
+ghost use Rattle.jc_effects.specs.Parts.{differences_of, or_nothing};
 ghost use Rattle.jc_effects.specs.Places.{part_under, differences_under, differs_at};
 
 use crate::effects::Effects;
 use jc_rules::{Key, Tagged};
 
-/// No place.
-const NOTHING: Effects = Effects::Nothing;
-
 /// Of what differs in a key's map and in its list the part under the tagged key.
-fn part_under<'a>(tagged: &Tagged, map: &'a Effects, list: &'a Effects) -> &'a Effects
-    ensures { differences_of result.now ≡ part_under tagged.now (differences_of map.now) (differences_of list.now) }
+fn part_under<'a>(tagged: &Tagged, map: &'a Effects, list: &'a Effects) -> Option<&'a Effects>
+    ensures { or_nothing result ≡ part_under tagged.now (differences_of map.now) (differences_of list.now) }
 {
     match tagged {
-        Tagged::MapT(_) => map,
-        Tagged::ListT(_) => list,
-        Tagged::RegT(_) => &NOTHING,
+        Tagged::MapT(_) => Some(map),
+        Tagged::ListT(_) => Some(list),
+        Tagged::RegT(_) => None,
     }
 }
 
 /// What differs in the map or in the list under the tagged key.
-fn under<'a>(effects: &'a Effects, tagged: &Tagged) -> &'a Effects
-    ensures { differences_of result.now ≡ differences_under tagged.now (differences_of effects.now) }
+fn under<'a>(effects: &'a Effects, tagged: &Tagged) -> Option<&'a Effects>
+    ensures { or_nothing result ≡ differences_under tagged.now (differences_of effects.now) }
 {
     let mut rest = effects;
     'places: while let Effects::Place(key, _, map, list, more) = rest {
@@ -33,7 +30,7 @@ fn under<'a>(effects: &'a Effects, tagged: &Tagged) -> &'a Effects
         }
         rest = more;
     }
-    &NOTHING
+    None
 }
 
 /// Whether something differs at the key of the context, or below it.
@@ -56,7 +53,10 @@ pub fn differs_at(effects: &Effects, path: &[Tagged], key: &Key) -> bool
 {
     let mut inside = effects;
     for tagged in path {
-        inside = under(inside, tagged);
+        match under(inside, tagged) {
+            Some(below) => inside = below,
+            None => return false,
+        }
     }
     is_listed(inside, key)
 }
