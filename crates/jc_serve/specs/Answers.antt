@@ -32,13 +32,13 @@ use Rattle.jc_session.specs.Reply.{Reply}
 use Rattle.jc_session.specs.Requests as Q
 use Rattle.jc_session.specs.Requests.{Request, Word}
 use Rattle.jc_requests.specs.Asked as K
-use Rattle.jc_requests.specs.Asked.{Asked, Position, Look}
+use Rattle.jc_requests.specs.Asked.{Asked, Position}
 use Rattle.jc_answers.specs.JsonTexts.{Member, number_member, string_member, object_text, array_text}
 use Rattle.jc_answers.specs.Refusals.{refusal_answer, IsRefusedText}
 use Rattle.jc_answers.specs.ReplyTexts.{Answers, at_answer, flag}
 use Rattle.jc_serve.specs.Journals.{Details, AnswersJournal, AnswersEvent, IsMadeLine}
-use Rattle.jc_serve.specs.Looks.{IsStateOf, Gives, Shows, IsBadLook, IsGoodLook, LooksFrom, no_value_answer}
-use Rattle.jc_serve.specs.Marks.{Mark, of_session, operation, place, Served, moved_to, with_mark, session_in, after_session, MarkNamesAt, RunsTo, RunsBack}
+use Rattle.jc_serve.specs.Looks.{Look, look_of, eval, IsStateOf, Gives, Shows, IsBadLook, IsGoodLook, LooksFrom, no_value_answer}
+use Rattle.jc_serve.specs.Marks.{Mark, of_session, operation, place, Served, new_served, moved_to, with_mark, session_in, after_session, MarkNamesAt, RunsTo, RunsBack}
 use Rattle.jc_serve.specs.Places.{IsPlaces}
 use Rattle.jc_serve.specs.Positions.{count_of, all_events, IsAt}
 use Rattle.jc_serve.specs.Subjects.{Subject, no_scenario, stuck_given, served, GivenStop, IsFaultAnswer, given_stuck_answer}
@@ -58,13 +58,13 @@ IsNoRule version name = (rule : Rule) → Knows rule version → rule_name rule 
 
 -- the answer to any request but `quit`, and but one that names a rule which no version has
 pub data AnswersRefused (text : List ℕ) (fault : ScenarioFault) : Asked → List ℕ → Type 0 where
-  quits : AnswersRefused text fault (K.as_session Q.quit) quit_answer
+  quits : AnswersRefused text fault (K.of_session Q.quit) quit_answer
   no_rule : {name : Word}
       → IsNoRule Two name
-      → AnswersRefused text fault (K.as_session (Q.break_rule name)) (refusal_answer F.BadLine)
+      → AnswersRefused text fault (K.of_session (Q.break_rule name)) (refusal_answer F.BadLine)
   refuses : {request : Asked} {answer : List ℕ}
-      → request ≢ K.as_session Q.quit
-      → ((name : Word) → IsNoRule Two name → request ≢ K.as_session (Q.break_rule name))
+      → request ≢ K.of_session Q.quit
+      → ((name : Word) → IsNoRule Two name → request ≢ K.of_session (Q.break_rule name))
       → IsFaultAnswer text fault answer
       → AnswersRefused text fault request answer
 
@@ -75,28 +75,29 @@ pub data AnswersRefused (text : List ℕ) (fault : ScenarioFault) : Asked → Li
 pub data IsBadRequest (s : Scenario) : Asked → List ℕ → Type 0 where
   no_rule : {name : Word}
       → IsNoRule s.version name
-      → IsBadRequest s (K.as_session (Q.break_rule name)) (refusal_answer F.BadLine)
+      → IsBadRequest s (K.of_session (Q.break_rule name)) (refusal_answer F.BadLine)
   strange_break : {name : Word}
       → IsStrange s.names name
-      → IsBadRequest s (K.as_session (Q.break_replica name)) (refusal_answer F.UnknownReplica)
+      → IsBadRequest s (K.of_session (Q.break_replica name)) (refusal_answer F.UnknownReplica)
   strange_first : {name other : Word}
       → IsStrange s.names name
-      → IsBadRequest s (K.as_session (Q.compare name other)) (refusal_answer F.UnknownReplica)
+      → IsBadRequest s (K.of_session (Q.compare name other)) (refusal_answer F.UnknownReplica)
   strange_second : {name other : Word}
       → IsStrange s.names other
-      → IsBadRequest s (K.as_session (Q.compare name other)) (refusal_answer F.UnknownReplica)
+      → IsBadRequest s (K.of_session (Q.compare name other)) (refusal_answer F.UnknownReplica)
   strange_maker : {counter : ℕ} {name : Word}
       → IsStrange s.names name
       → IsBadRequest s (K.break_op counter name) (refusal_answer F.UnknownReplica)
   misspelled : {rest answer : List ℕ} {refusal : Refusal} {at : ℕ}
       → IsMisspelled s.version s.names rest refusal at
       → IsRefusedText rest refusal at answer
-      → IsBadRequest s (K.as_session (Q.act rest)) answer
-  bad_look : {at : Option Position} {look : Look} {answer : List ℕ}
+      → IsBadRequest s (K.of_session (Q.act rest)) answer
+  bad_look : {request : Asked} {at : Option Position} {look : Look} {answer : List ℕ}
+      → look_of request ≡ Some (at, look)
       → IsBadLook s look answer
-      → IsBadRequest s (K.looks at look) answer
+      → IsBadRequest s request answer
   bad_place : {name : Word} {text answer : List ℕ}
-      → IsBadLook s (K.eval name text) answer
+      → IsBadLook s (eval name text) answer
       → IsBadRequest s (K.break_place name text) answer
 
 abbrev pub IsGoodRequest : Scenario → Asked → Type 0
@@ -105,22 +106,30 @@ IsGoodRequest s request = (answer : List ℕ) → IsBadRequest s request answer 
 -- ---- where a given event is stuck
 
 -- what a look or an event is asked at, where one is
-abbrev pub position_in : Asked → Option Position
-position_in (K.looks at look) = at
-position_in (K.event at rules effects) = at
-position_in request = None
+abbrev pub at_of_look : Option (Option Position × Look) → Option Position
+at_of_look None = None
+at_of_look (Some look) = look.0
 
--- it is answered though a given event is stuck
-abbrev pub IsAnsweredAnyway : Scenario → Asked → Type 0
-IsAnsweredAnyway s K.places = Unit {0}
-IsAnsweredAnyway s K.print = Unit {0}
-IsAnsweredAnyway s (K.journal rules effects between) = Unit {0}
-IsAnsweredAnyway s (K.as_session Q.quit) = Unit {0}
-IsAnsweredAnyway s (K.looks (Some at) look) =
-    (count : ℕ) × (network : Network) × (count_of s s.schedule at ≡ Ok count) × IsAt s s.schedule count network
-IsAnsweredAnyway s (K.event (Some at) rules effects) =
-    (count : ℕ) × (network : Network) × (count_of s s.schedule at ≡ Ok count) × IsAt s s.schedule count network
-IsAnsweredAnyway s request = ⊥
+abbrev pub position_in : Asked → Option Position
+position_in (K.event at rules effects) = at
+position_in request = at_of_look (look_of request)
+
+-- it is about the text as a whole, or is to end
+abbrev pub IsOfText : Asked → Type 0
+IsOfText K.places = Unit {0}
+IsOfText K.print = Unit {0}
+IsOfText (K.journal rules effects between) = Unit {0}
+IsOfText (K.of_session Q.quit) = Unit {0}
+IsOfText request = ⊥
+
+-- its position is reached
+pub record IsReached (s : Scenario) (request : Asked) : Type 0 where
+  pub at : Position
+  pub count : ℕ
+  pub network : Network
+  pub asked : position_in request ≡ Some at
+  pub counts : count_of s s.schedule at ≡ Ok count
+  pub is_at : IsAt s s.schedule count network
 
 -- its position isn't there
 abbrev pub IsNowhere : Scenario → Asked → Refusal → Type 0
@@ -129,22 +138,19 @@ IsNowhere s request refusal =
 
 -- What is answered where a given event is stuck.
 pub data AnswersStuck (text : List ℕ) (s : Scenario) (stop : GivenStop s) : Asked → List ℕ → Type 0 where
-  quits : AnswersStuck text s stop (K.as_session Q.quit) quit_answer
+  quits : AnswersStuck text s stop (K.of_session Q.quit) quit_answer
   places : {answer : List ℕ} → IsPlaces text answer → AnswersStuck text s stop K.places answer
   prints : AnswersStuck text s stop K.print (quoted (canon s))
   journal : {rules effects : Bool} {between : Option (Position × Position)} {answer : List ℕ}
       → AnswersJournal (details rules effects) s s.schedule between answer
       → AnswersStuck text s stop (K.journal rules effects between) answer
-  shows : {at : Position} {look : Look} {count : ℕ} {network : Network} {answer : List ℕ}
-      → count_of s s.schedule at ≡ Ok count
-      → IsAt s s.schedule count network
-      → Shows s network.states look answer
-      → AnswersStuck text s stop (K.looks (Some at) look) answer
-  event : {at : Position} {rules effects : Bool} {count : ℕ} {network : Network} {answer : List ℕ}
-      → count_of s s.schedule at ≡ Ok count
-      → IsAt s s.schedule count network
-      → AnswersEvent (details rules effects) s (record { schedule = s.schedule; position = 0; marks = [] }) (Some at)
-      answer
+  shows : {request : Asked} {at : Option Position} {look : Look} {answer : List ℕ} (to : IsReached s request)
+      → look_of request ≡ Some (at, look)
+      → Shows s to.network.states look answer
+      → AnswersStuck text s stop request answer
+  event : {at : Position} {rules effects : Bool} {answer : List ℕ}
+      → IsReached s (K.event (Some at) rules effects)
+      → AnswersEvent (details rules effects) s (new_served s.schedule) (Some at) answer
       → AnswersStuck text s stop (K.event (Some at) rules effects) answer
   bad : {request : Asked} {answer : List ℕ}
       → IsBadRequest s request answer
@@ -156,7 +162,8 @@ pub data AnswersStuck (text : List ℕ) (s : Scenario) (stop : GivenStop s) : As
   stuck : {request : Asked}
       → IsGoodRequest s request
       → ((refusal : Refusal) → IsNowhere s request refusal → ⊥)
-      → (IsAnsweredAnyway s request → ⊥)
+      → (IsOfText request → ⊥)
+      → (IsReached s request → ⊥)
       → AnswersStuck text s stop request (given_stuck_answer s stop)
 
 -- ---- breakpoints of a session
@@ -198,7 +205,7 @@ mark_answers names number (Some b ∷ marks) =
 -- A breakpoint at the place that an expression gives at a replica.
 pub data SetsPlace (s : Scenario) (states : List State) (A : Served) (name : Word) (text : List ℕ)
     : Served → List ℕ → Type 0 where
-  bad : {answer : List ℕ} → IsBadLook s (K.eval name text) answer → SetsPlace s states A name text A answer
+  bad : {answer : List ℕ} → IsBadLook s (eval name text) answer → SetsPlace s states A name text A answer
   no_value : {state : State} {why : Cause} (e : Expr)
       → IsStateOf s states name state
       → IsExpressionOf text e
@@ -246,7 +253,7 @@ IsOwn request = ⊥
 -- What a request leads to where there is a session, and its answer.
 pub data AnswersServed (text : List ℕ) (s : Scenario) (start : Network) (A : Served)
     : Asked → Served → List ℕ → Type 0 where
-  quits : AnswersServed text s start A (K.as_session Q.quit) A quit_answer
+  quits : AnswersServed text s start A (K.of_session Q.quit) A quit_answer
   -- about the text
   places : {answer : List ℕ} → IsPlaces text answer → AnswersServed text s start A K.places A answer
   prints : AnswersServed text s start A K.print A (quoted (canon (record s { schedule = A.schedule })))
@@ -258,7 +265,7 @@ pub data AnswersServed (text : List ℕ) (s : Scenario) (start : Network) (A : S
       → (IsOwn request → ⊥)
       → Replies (origin_of s start) (session_in A) request B reply
       → IsReplyAnswer s start (event_text request) (after_session A B) reply answer
-      → AnswersServed text s start A (K.as_session request) (after_session A B) answer
+      → AnswersServed text s start A (K.of_session request) (after_session A B) answer
   goes_to_end : {B : Session} {reply : Reply} {answer : List ℕ}
       → Replies (origin_of s start) (session_in A) (Q.goto (length A.schedule)) B reply
       → IsReplyAnswer s start [] (after_session A B) reply answer
@@ -268,9 +275,9 @@ pub data AnswersServed (text : List ℕ) (s : Scenario) (start : Network) (A : S
       → A.position ≢ length A.schedule
       → RunsTo start A n end
       → IsReplyAnswer s start [] (moved_to A n) (Y.ran n end) answer
-      → AnswersServed text s start A (K.as_session Q.run) (moved_to A n) answer
+      → AnswersServed text s start A (K.of_session Q.run) (moved_to A n) answer
   runs_past : A.position ≡ length A.schedule
-      → AnswersServed text s start A (K.as_session Q.run) A (refusal_answer F.AtEnd)
+      → AnswersServed text s start A (K.of_session Q.run) A (refusal_answer F.AtEnd)
   runs_back : {n : ℕ} {end : Option ℕ}
       → A.position ≢ 0
       → RunsBack start A n end
@@ -280,16 +287,16 @@ pub data AnswersServed (text : List ℕ) (s : Scenario) (start : Network) (A : S
   -- breakpoints
   breaks_at : {n : ℕ} {B : Served} {answer : List ℕ}
       → SetsMark A (of_session (Kind.Position n)) B answer
-      → AnswersServed text s start A (K.as_session (Q.break_at n)) B answer
+      → AnswersServed text s start A (K.of_session (Q.break_at n)) B answer
   breaks_rule : {name : Word} {B : Served} {answer : List ℕ} (rule : Rule)
       → Knows rule s.version
       → rule_name rule ≡ name
       → SetsMark A (of_session (Kind.Rule rule)) B answer
-      → AnswersServed text s start A (K.as_session (Q.break_rule name)) B answer
+      → AnswersServed text s start A (K.of_session (Q.break_rule name)) B answer
   breaks_replica : {name : Word} {B : Served} {answer : List ℕ} (p : ℕ)
       → IsNamed s.names name p
       → SetsMark A (of_session (Kind.Replica p)) B answer
-      → AnswersServed text s start A (K.as_session (Q.break_replica name)) B answer
+      → AnswersServed text s start A (K.of_session (Q.break_replica name)) B answer
   breaks_op : {counter p : ℕ} {name : Word} {B : Served} {answer : List ℕ}
       → IsNamed s.names name p
       → SetsMark A (operation (record { counter = counter; replica = p })) B answer
@@ -300,19 +307,20 @@ pub data AnswersServed (text : List ℕ) (s : Scenario) (start : Network) (A : S
       → AnswersServed text s start A (K.break_place name expression) B answer
   clears : (j : ℕ) (b : Mark)
       → slice_get A.marks j ≡ Some (Some b)
-      → AnswersServed text s start A (K.as_session (Q.unbreak (j + 1))) (with_mark A j None)
+      → AnswersServed text s start A (K.of_session (Q.unbreak (j + 1))) (with_mark A j None)
       (object_text (number_member (codes "cleared") (j + 1)))
   no_break : {k : ℕ}
       → ((j : ℕ) (b : Mark) → k ≡ j + 1 → slice_get A.marks j ≢ Some (Some b))
-      → AnswersServed text s start A (K.as_session (Q.unbreak k)) A (refusal_answer F.NoSuchBreak)
+      → AnswersServed text s start A (K.of_session (Q.unbreak k)) A (refusal_answer F.NoSuchBreak)
   lists_breaks : AnswersServed text s start A K.breaks A (array_text (mark_answers s.names 1 A.marks))
   bad : {request : Asked} {answer : List ℕ}
       → IsBadRequest s request answer
       → AnswersServed text s start A request A answer
   -- what there is at a position
-  looks : {at : Option Position} {look : Look} {answer : List ℕ}
+  looks : {request : Asked} {at : Option Position} {look : Look} {answer : List ℕ}
+      → look_of request ≡ Some (at, look)
       → LooksFrom s A at look answer
-      → AnswersServed text s start A (K.looks at look) A answer
+      → AnswersServed text s start A request A answer
   tells_event : {at : Option Position} {rules effects : Bool} {answer : List ℕ}
       → AnswersEvent (details rules effects) s A at answer
       → AnswersServed text s start A (K.event at rules effects) A answer

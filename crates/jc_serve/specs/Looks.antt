@@ -24,12 +24,33 @@ use Rattle.jc_view.specs.Visible.{view_line}
 use Rattle.jc_view.specs.Places.{place_line}
 use Rattle.jc_session.specs.Answers.{IsNamed, IsStrange}
 use Rattle.jc_session.specs.Requests.{Word}
-use Rattle.jc_requests.specs.Asked.{Position, Look, view, view_place, state, brief, eval}
+use Rattle.jc_requests.specs.Asked as K
+use Rattle.jc_requests.specs.Asked.{Asked, Position}
 use Rattle.jc_answers.specs.JsonTexts.{Member, string_member, array_text, without_lf}
 use Rattle.jc_answers.specs.Refusals.{refused_object, refusal_members, refusal_answer, IsRefusedText}
 use Rattle.jc_answers.specs.ReplyTexts.{dump_answer, at_answer, stuck_member}
 use Rattle.jc_serve.specs.Positions.{count_of, number_behind, IsAt, StopsAt}
 use Rattle.jc_serve.specs.Marks.{Served, session_in}
+
+-- ---- looks
+
+-- The view of one replica or of each; what is shown at a place; the state of one replica or of each; a state without its
+-- tree; what an expression gives. Words are names of replicas.
+pub data Look : Type 0 where
+  view : Option Word → Look
+  view_place : Word → List ℕ → Look
+  state : Option Word → Look
+  brief : Word → Look
+  eval : Word → List ℕ → Look
+
+-- the look that a request is, and its position
+abbrev pub look_of : Asked → Option (Option Position × Look)
+look_of (K.view at name) = Some (at, view name)
+look_of (K.view_place at name text) = Some (at, view_place name text)
+look_of (K.state_at at name) = Some (Some at, state name)
+look_of (K.brief at name) = Some (at, brief name)
+look_of (K.eval at name text) = Some (at, eval name text)
+look_of request = None
 
 -- ---- texts
 
@@ -73,7 +94,7 @@ viewed names name A (ACursor cursor) = place_answer names name A cursor
 viewed names name A (Names keys) = bound_answer names (Names keys)
 viewed names name A (Pairs pairs) = bound_answer names (Pairs pairs)
 
--- ---- looks
+-- ---- what a look shows
 
 -- the replica of the name is in this state
 pub record IsStateOf (s : Scenario) (states : List State) (name : Word) (A : State) : Type 0 where

@@ -3,7 +3,7 @@ use Rattle.std.specs.Prelude.{◌≡◌, ◌≢◌, ℕ, ◌+◌, List, [], ◌�
 use Rattle.jc_rules.specs.declared.limits.TheConstants.{MAX_TEXT}
 use Rattle.jc_rules.specs.declared.refusal.Refusal.TheVariants.{BadLine}
 use Rattle.jc_session.specs.Requests as Q
-use Rattle.jc_requests.specs.Asked.{Asked, asked, as_session}
+use Rattle.jc_requests.specs.Asked.{Asked, asked, of_session}
 use Rattle.jc_requests.specs.Input.{Turn, says, brings, InputEnd, finished, AreDue}
 use Rattle.jc_answers.specs.Refusals.{refusal_answer}
 use Rattle.jc_serve.specs.Answers.{AnswersAbout}
@@ -45,7 +45,7 @@ AnswersTurns H (turn ∷ turns) I text =
 
 -- a request to end
 abbrev pub IsQuit : Turn → Type 0
-IsQuit (says line) = asked line ≡ Some (as_session Q.quit)
+IsQuit (says line) = asked line ≡ Some (of_session Q.quit)
 IsQuit (brings bytes) = ⊥
 
 abbrev pub HasNoQuit : List Turn → Type 0
