@@ -1,7 +1,8 @@
 //! The lines of a journal between two positions, and the line of one event.
 
 use crate::positions::first_network;
-use crate::texts::{Array, without_lf};
+use crate::texts::without_lf;
+use jc_answers::ArrayText;
 use jc_journal::{Networks, NumberedEvent, Told};
 use jc_rules::Event;
 use jc_scenario::Scenario;
@@ -58,7 +59,7 @@ pub(crate) fn lines_between(
     details: Details,
     counts: (usize, usize),
 ) -> Result<Vec<u8>, AllocError> {
-    let mut lines = Array::new(alloc)?;
+    let mut lines = ArrayText::new(alloc)?;
     let Some(mut networks) = networks_behind(alloc, scenario, schedule, details, counts.0)? else {
         return lines.end();
     };

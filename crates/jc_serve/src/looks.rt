@@ -1,6 +1,7 @@
 //! What is shown of the replicas of a network: views, states and values of expressions.
 
-use crate::texts::{Array, no_value, refused_at, refused_by, without_lf};
+use crate::texts::{no_value, refused_at, without_lf};
+use jc_answers::{ArrayText, refused};
 use jc_cursor::{Bound, EvalFault, eval};
 use jc_dump::{bound_text, brief_replica, dump_replica};
 use jc_network::Net;
@@ -37,7 +38,7 @@ pub(crate) fn replica_named(
 ) -> Result<Result<u16, Vec<u8>>, AllocError> {
     match number_of(names, name) {
         Some(p) => Ok(Ok(p)),
-        None => Ok(Err(refused_by(alloc, Refusal::UnknownReplica)?)),
+        None => Ok(Err(refused(alloc, Refusal::UnknownReplica)?)),
     }
 }
 
@@ -129,7 +130,7 @@ fn state_of(alloc: Global, net: &Net, p: u16) -> Result<Vec<u8>, AllocError> {
 
 /// The views of all replicas.
 fn views(alloc: Global, net: &Net) -> Result<Vec<u8>, AllocError> {
-    let mut all = Array::new(alloc)?;
+    let mut all = ArrayText::new(alloc)?;
     for p in 0..net.names().len() {
         all.push(view_of(alloc, net, p as u16)?.as_slice())?;
     }
@@ -138,7 +139,7 @@ fn views(alloc: Global, net: &Net) -> Result<Vec<u8>, AllocError> {
 
 /// The states of all replicas.
 fn states(alloc: Global, net: &Net) -> Result<Vec<u8>, AllocError> {
-    let mut all = Array::new(alloc)?;
+    let mut all = ArrayText::new(alloc)?;
     for p in 0..net.names().len() {
         all.push(state_of(alloc, net, p as u16)?.as_slice())?;
     }
