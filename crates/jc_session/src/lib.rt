@@ -12,5 +12,8 @@ mod sessions;
 mod texts;
 
 pub use replies::{Reply, reply_to};
-pub use request::{Meaning, Request, meaning_of};
+pub use request::{
+    Meaning, Request, all_ascii, all_digits, ascii_text, first_word, meaning_of, number_in,
+    past_blanks, word_len,
+};
 pub use sessions::{SessionEnd, SessionFault, session};
