@@ -23,15 +23,18 @@ after_words (suc n) line = after_words n (after_word line)
 
 -- ---- numbers
 
--- `0`, or 1 to 20 digits of which the first isn't `0`, below 2 to the 64
-abbrev pub is_seed_word : Word → Bool
-is_seed_word w =
+-- `0`, or 1 to 20 digits of which the first isn't `0`
+abbrev pub has_seed_form : Word → Bool
+has_seed_form w =
     bytes_eq w (codes "0")
-    || ((nat_le 1 (length w) && nat_le (length w) 20)
-    && ((all_ascii_digits w && not (slice_index w 0 == 48)) && nat_lt (digits_value 10 w) 18446744073709551616))
+    || ((nat_le 1 (length w) && nat_le (length w) 20) && (all_ascii_digits w && not (slice_index w 0 == 48)))
+
+-- a seed has 64 bits
+abbrev pub seed_of : ℕ → Option ℕ
+seed_of n = if nat_lt n 18446744073709551616 then Some n else None
 
 abbrev pub seed_in : Word → Option ℕ
-seed_in w = if is_seed_word w then Some (digits_value 10 w) else None
+seed_in w = if has_seed_form w then seed_of (digits_value 10 w) else None
 
 abbrev pub limit_of : Option ℕ → Option ℕ
 limit_of (Some n) = if nat_le n MAX_EVENTS then Some n else None

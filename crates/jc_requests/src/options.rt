@@ -1,9 +1,8 @@
 //! Numbers, positions and options among the words of a line. `asked` reads them.
 
-ghost use Rattle.std.specs.Prelude.{◌≡◌, ◌≤◌, ◌<◌, [], ◌∷◌, option_map};
+ghost use Rattle.std.specs.Prelude.{◌≡◌, option_map};
 ghost use Rattle.jc_session.specs.Requests.{words};
-ghost use Rattle.jc_session.specs.Views.{AreAscii};
-ghost use Rattle.jc_requests.specs.Asked.{only, is_seed_word, seed_in, limit_in, position_in, past_at, past_option, past_details, pair_of};
+ghost use Rattle.jc_requests.specs.Asked.{only, has_seed_form, seed_in, limit_in, position_in, past_at, past_option, past_details, pair_of};
 ghost use Rattle.jc_requests.specs.Views.{word_view, position_view, at_view, between_view};
 
 use crate::kinds::Position;
@@ -22,7 +21,9 @@ pub fn only(text: &[u8]) -> Option<&[u8]>
 }
 
 /// Whether a word is `0`, or 1 to 20 digits of which the first isn't `0`.
-fn has_seed_form(word: &[u8]) -> bool {
+fn has_seed_form(word: &[u8]) -> bool
+    ensures { result ≡ has_seed_form word.now }
+{
     word == b"0".as_slice()
         || (!word.is_empty() && word.len() <= 20 && all_digits(word) && word[0] != b'0')
 }

@@ -1,5 +1,8 @@
-//! Tests of the requests of programs: what lines ask for, worked out by hand from their forms.
+//! Tests of the requests of programs, worked out by hand from their forms: what lines ask for, and how an input is cut
+//! into requests.
 #![tactic(auto)]
 
+#[cfg(test)]
+mod inputs;
 #[cfg(test)]
 mod lines;

@@ -11,6 +11,9 @@ mod request;
 mod sessions;
 mod texts;
 
+pub use ahead::Ahead;
+pub use line_buffer::Line;
+pub use lines::{Next, read_line};
 pub use replies::{Reply, reply_to};
 pub use request::{
     Meaning, Request, all_ascii, all_digits, ascii_text, first_word, meaning_of, number_in,
