@@ -27,7 +27,7 @@ fn after_words(count: usize, line: &[u8]) -> &str
     ensures { result.now ≡ after_words count line.now }
 {
     let mut text = line;
-    for _ in 0..count {
+    for _word in 0..count {
         text = after_word(text);
     }
     ascii_text(text)

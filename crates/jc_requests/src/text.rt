@@ -67,7 +67,7 @@ pub fn read_text<S: Source>(
     ensures few { length ahead.old < MAX_LINE → length ahead.new < MAX_LINE }
 {
     let mut text = Vec::new(alloc);
-    'bytes: for _ in 0..size {
+    for _byte in 0..size {
         let Some(byte) = ahead.next(source)? else {
             return Ok(TextEnd::CutShort);
         };

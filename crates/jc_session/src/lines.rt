@@ -51,6 +51,7 @@ pub fn read_line<S: Source>(
         × (length raw ≡ room.old) }
     ensures err { OnErr result ((raw : List ℕ) × Lacks 10 raw × (ahead.new ≡ []) × (length raw ≤ room.old)
         × ReadStopsAt (prepend_known ahead.old (S.left source.old)) (S.left source.new) raw) }
+    ensures room { room.new ≤ room.old }
     ensures few { OnOk result (length ahead.new < MAX_LINE) }
     ensures failures { S.failures source.new ≡ S.failures source.old + failures_of result }
 {
@@ -141,9 +142,14 @@ impl Lines {
         let mut left = room;
         let next = read_line(&mut self.ahead, &mut self.line, &mut left, source)?;
         self.bytes += room - left;
-        if let Next::Whole = next {
-            self.count += 1;
+        match next {
+            Next::Whole => {
+                self.count += 1;
+                Ok(Next::Whole)
+            }
+            Next::Last => Ok(Next::Last),
+            Next::End => Ok(Next::End),
+            Next::TooMany => Ok(Next::TooMany),
         }
-        Ok(next)
     }
 }
