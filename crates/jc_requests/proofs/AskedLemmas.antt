@@ -1,16 +1,17 @@
 -- Of `Asked`: seeds as they are parsed, and what is behind words.
-use Rattle.std.proofs.Common.{◌≡◌, ℕ, zero, suc, ◌+◌, ◌<◌, ◌≤◌, ◌^◌, nat_le, nat_lt, ◌==◌, List, [], ◌∷◌, length, get_or, Bool, true, false, not, ◌&&◌, codes, Option, None, Some, Result, Ok, Err, refl, ap, sym, subst, ◌∙◌, arith}
-use Rattle.std.specs.List.{prefix_len}
+use Rattle.std.proofs.Common.{◌≡◌, ◌≢◌, ℕ, zero, suc, ◌+◌, ◌<◌, ◌≤◌, ◌^◌, nat_le, nat_lt, ◌==◌, List, [], ◌∷◌, length, get_or, Bool, true, false, not, ◌&&◌, codes, Option, None, Some, Result, Ok, Err, refl, ap, sym, subst, ◌∙◌, arith}
+use Rattle.std.specs.List.{prefix_len, list_all}
 use Rattle.std.specs.Result.{OkIff, result_ok}
 use Rattle.std.specs.Str.{bytes_eq, all_ascii_digits}
 use Rattle.std.specs.Str.Parse.{digits_value}
 use Rattle.std.proofs.lemmas.Bool.{and_parts}
 use Rattle.std.proofs.lemmas.Bool.Decides.{nat_tests}
 use Rattle.std.proofs.lemmas.Slice.Eq.{bytes_eq-Decides}
-use Rattle.jc_session.specs.Requests.{Word, is_blank_char, past, after_word}
+use Rattle.jc_session.specs.Requests.{Word, is_blank_char, words, past, after_word}
+use Rattle.jc_session.specs.Lines.{Line}
 use Rattle.jc_session.specs.Views.{AreAscii}
 use Rattle.jc_session.proofs.RequestsLemmas.{ascii_drop}
-use Rattle.jc_requests.specs.Asked.{after_words, has_seed_form, seed_of}
+use Rattle.jc_requests.specs.Asked.{before, some_before, after_words, has_seed_form, seed_of, asked_by, asked}
 
 -- ---- seeds
 
@@ -61,3 +62,24 @@ ascii_after line h =
     let front = past is_blank_char line in
     let rest = past (λ b. not (is_blank_char b)) front in
     ascii_drop (prefix_len is_blank_char rest) rest (ascii_drop (prefix_len (λ b. not (is_blank_char b)) front) front (ascii_drop (prefix_len is_blank_char line) line h))
+
+-- ---- positions
+
+-- a number that isn't 0 is before position 0
+pub some_before_is : (n : ℕ) → n ≢ 0 → some_before (Some n) ≡ Some (before n)
+some_before_is zero ne = absurd (ne refl)
+some_before_is (suc n) ne = refl
+
+-- ---- what a line asks for
+
+pub asked_none : (l : Line) → l ≡ None → asked l ≡ None
+unfolding asked
+asked_none l e = rw e refl
+
+pub asked_ascii : (l : Line) (text : List ℕ) → l ≡ Some text → AreAscii text → asked l ≡ asked_by text (words text)
+unfolding asked
+asked_ascii l text e h = rw (e, h) refl
+
+pub asked_other : (l : Line) (text : List ℕ) → l ≡ Some text → list_all (λ b. nat_lt b 128) text ≡ false → asked l ≡ None
+unfolding asked
+asked_other l text e h = rw (e, h) refl

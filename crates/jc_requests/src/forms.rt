@@ -79,7 +79,10 @@ fn scenario(rest: &[u8]) -> Option<Asked<'static>>
 fn words_before(at: Option<Position>) -> usize
     ensures { result ≡ words_before (at_view at) }
 {
-    if at.is_some() { 3 } else { 1 }
+    match at {
+        Some(_) => 3,
+        None => 1,
+    }
 }
 
 fn view<'a>(line: &'a [u8], rest: &'a [u8]) -> Option<Asked<'a>>
@@ -300,10 +303,14 @@ fn asked_by<'a>(word: &[u8], line: &'a [u8], rest: &'a [u8]) -> Option<Asked<'a>
 pub fn asked(line: Option<&[u8]>) -> Option<Asked<'_>>
     ensures { option_map asked_view result ≡ asked (line_of_bytes line.entry) }
 {
-    let text = line?;
+    let Some(text) = line else {
+        return None;
+    };
     if !all_ascii(text) {
         return None;
     }
-    let (word, rest) = first_word(text)?;
+    let Some((word, rest)) = first_word(text) else {
+        return None;
+    };
     asked_by(word, text, rest)
 }

@@ -28,10 +28,10 @@ fn keep(text: &mut Vec<u8>, byte: u8) -> Result<(), AllocError>
     requires { vec_len text.old ≤ MAX_TEXT + 1 }
     ensures { OnOk result (text.new.items ≡ kept (text.old.items ++ byte ∷ [])) }
 {
-    if text.len() > MAX_TEXT {
-        return Ok(());
+    if text.len() <= MAX_TEXT {
+        text.push(byte)?;
     }
-    text.push(byte)
+    Ok(())
 }
 
 /// Reads a text of so many bytes from a source, and from the bytes that were read ahead of it, and as many bytes as there
