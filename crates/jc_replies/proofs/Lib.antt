@@ -1,0 +1,3 @@
+pub mod MovesLemmas
+pub mod ShownLemmas
+pub mod RepliesLemmas
