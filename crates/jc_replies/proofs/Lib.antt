@@ -1,3 +1,4 @@
 pub mod MovesLemmas
 pub mod ShownLemmas
 pub mod RepliesLemmas
+pub mod HereLemmas

@@ -5,4 +5,4 @@ mod moves;
 mod replies;
 mod shown;
 
-pub use replies::answer_of;
+pub use replies::{answer_of, answer_to};

@@ -1,19 +1,21 @@
 //! The answer of each reply of a session's debugger.
 
-ghost use Rattle.std.specs.Prelude.{◌≡◌, List, IfOk, All, length};
+ghost use Rattle.std.specs.Prelude.{◌≡◌, IfOk, MatchOption, All, length};
 ghost use Rattle.jc_printer.specs.Canon.{AreNamed};
 ghost use Rattle.jc_session.specs.AnswerOf.{AllNamed, IsReply, IsNamedReply};
 ghost use Rattle.jc_session.specs.Reply.{Reply as AnyReply};
+ghost use Rattle.jc_session.specs.Requests as Q;
+ghost use Rattle.jc_session.specs.Views.{request_view};
 ghost use Rattle.jc_answers.specs.JsonTexts.{number_member, object_text};
 ghost use Rattle.jc_replies.specs.ReplyTexts.{IsAnswer};
-ghost use Rattle.jc_replies.specs.AnswerOf.{background_of, IsHere};
+ghost use Rattle.jc_replies.specs.AnswerOf.{background_of, IsHere, event_text, GivesServed};
 
 use crate::moves::{position_with, ran, stuck_here};
 use crate::shown::{compared, enabled, events, state_of, states, trace};
 use jc_answers::{Member, object_text, refused, refused_text};
 use jc_debug::Debugger;
 use jc_rules::Event;
-use jc_session::Reply;
+use jc_session::{Reply, Request, reply_to};
 use std::alloc::{AllocError, Global};
 
 /// An object with one number.
@@ -62,5 +64,35 @@ pub fn answer_of(
             position_with(alloc, debugger, given, Member::absent(), of)
         }
         Reply::Compared(found) => compared(alloc, *found),
+    }
+}
+
+/// The text of a request's event.
+fn event_text<'a>(request: &Request<'a>) -> &'a [u8]
+    ensures { result.now ≡ event_text (request_view request.now) }
+{
+    match request {
+        Request::Act(rest) => rest.as_bytes(),
+        _ => b"".as_slice(),
+    }
+}
+
+/// Does what a session's request asks for, and returns its answer; `quit` has none. `given` are the events that were
+/// made before position 0. Refused for want of memory alone. A move may have gone a part of its way then.
+pub fn answer_to(
+    alloc: Global,
+    debugger: &mut Debugger,
+    given: &[Event],
+    request: Request<'_>,
+) -> Result<Option<Vec<u8>>, AllocError>
+    requires all { AllNamed debugger.old }
+    requires given { All (λ e. AreNamed e (length debugger.old.net.names)) given.now }
+    ensures { IfOk result (λ answer. MatchOption answer (request_view request.entry ≡ Q.quit)
+        (λ text. GivesServed given.now debugger.old (request_view request.entry) debugger.new text.items)) }
+{
+    let text = event_text(&request);
+    match reply_to(alloc, debugger, request)? {
+        Some(reply) => answer_of(alloc, debugger, given, text, &reply).map(Some),
+        None => Ok(None),
     }
 }
