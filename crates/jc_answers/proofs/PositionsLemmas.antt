@@ -18,13 +18,16 @@ line_push xs b =
     ap (λ n. n + 1) (ap length (filter-append is_lf xs (b ∷ [])) ∙ length-append (filter is_lf xs) (filter is_lf (b ∷ [])))
     ∙ lf_counted b (lf_count xs)
 
+one_more : (n : ℕ) → suc n + 1 ≡ n + 1 + 1
+one_more n = omega arith
+
 column_counted : (b : ℕ) (ys : List ℕ) → length (filter begins_character (take_while (λ c. not (is_lf c)) (b ∷ ys))) + 1 ≡ next_column (length (filter begins_character (take_while (λ c. not (is_lf c)) ys)) + 1) b
 column_counted b ys = by (is_lf b) (is_continuation b) refl refl
   where
     by : (p q : Bool) → is_lf b ≡ p → is_continuation b ≡ q → length (filter begins_character (take_while (λ c. not (is_lf c)) (b ∷ ys))) + 1 ≡ next_column (length (filter begins_character (take_while (λ c. not (is_lf c)) ys)) + 1) b
     by true q e f = rw e refl
     by false true e f = rw (e, f) refl
-    by false false e f = rw (e, f) (omega arith)
+    by false false e f = rw (e, f) (one_more (length (filter begins_character (take_while (λ c. not (is_lf c)) ys))))
 
 column_push : (xs : List ℕ) (b : ℕ) → column_behind (xs ++ b ∷ []) ≡ next_column (column_behind xs) b
 column_push xs b =

@@ -1,8 +1,9 @@
 -- Of `Refusals`: the members of a refusal in memory, and that a text is refused at an offset by one answer.
-use Rattle.std.proofs.Common.{◌≡◌, ℕ, ◌<◌, ◌≤◌, List, [], ◌∷◌, ◌++◌, length, take, codes, inl, inr, ◌⊎◌, refl, ap, sym, subst, ◌∙◌, arith}
+use Rattle.std.proofs.Common.{◌≡◌, ℕ, ◌<◌, ◌≤◌, List, [], ◌∷◌, ◌++◌, length, take, codes, Some, inl, inr, ◌⊎◌, refl, ap, sym, subst, ◌∙◌, arith}
 use Rattle.jc_rules.specs.declared.refusal.Refusal.{Refusal}
 use Rattle.jc_rules.specs.Refusals.{refusal_name, refusal_number}
-use Rattle.jc_syntax.proofs.TokenEndsLemmas.{one_token_end}
+use Rattle.jc_syntax.specs.Lexemes.{IsTokenEnd}
+use Rattle.jc_syntax.proofs.TokenEndsLemmas.{only_end}
 use Rattle.jc_answers.specs.declared.objects.Member.{Member}
 use Rattle.jc_answers.specs.declared.refusals.Extent.{Extent}
 use Rattle.jc_answers.specs.declared.refusals.Extent.TheVariants.{Token, Escape, Character, Byte}
@@ -30,6 +31,9 @@ six_members a b c d e f text refusal at stop column end line name number offset 
     λ i. column i ++ (end i ++ (line i ++ (name i ++ (number i ++ (offset i ++ [])))))
 
 -- ---- ends
+
+one_token_end : (text : List ℕ) (at p q : ℕ) → IsTokenEnd text at p → IsTokenEnd text at q → p ≡ q
+one_token_end text at p q a b = only_end (Some q) text at b.kind b.begins b.ends p a
 
 extent_ends : (extent : Extent) (text : List ℕ) (at p q : ℕ) → EndsWith extent text at p → EndsWith extent text at q → p ≡ q
 extent_ends Token text at p q (inl a) (inl b) = one_token_end text at p q a b

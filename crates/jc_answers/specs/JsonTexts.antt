@@ -1,5 +1,5 @@
 -- Texts of JSON, made of texts of values: an answer is made of these.
-use Rattle.std.specs.Prelude.{ℕ, List, [], ◌∷◌, ◌++◌, Option, Some, None, map, codes, decimal}
+use Rattle.std.specs.Prelude.{ℕ, List, [], ◌∷◌, ◌++◌, map, codes, decimal}
 use Rattle.jc_printer.specs.Canon.{quoted}
 
 -- a member of an object: its name, and the text of its value
@@ -19,14 +19,14 @@ text_member name text = (name, text) ∷ []
 abbrev pub with_commas : List (List ℕ) → List ℕ
 with_commas [] = []
 with_commas (t ∷ []) = t
-with_commas (t ∷ u ∷ ts) = t ++ codes "," ++ with_commas (u ∷ ts)
+with_commas (t ∷ u ∷ ts) = t ++ (codes "," ++ with_commas (u ∷ ts))
 
 abbrev pub array_text : List (List ℕ) → List ℕ
-array_text ts = codes "[" ++ with_commas ts ++ codes "]"
+array_text ts = codes "[" ++ (with_commas ts ++ codes "]")
 
 abbrev pub member_text : NamedText → List ℕ
-member_text m = quoted m.0 ++ codes ":" ++ m.1
+member_text m = quoted m.0 ++ (codes ":" ++ m.1)
 
 -- the object with these members, in their order
 abbrev pub object_text : List NamedText → List ℕ
-object_text ms = codes "{" ++ with_commas (map member_text ms) ++ codes "}"
+object_text ms = codes "{" ++ (with_commas (map member_text ms) ++ codes "}")

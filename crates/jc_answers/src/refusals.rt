@@ -110,7 +110,8 @@ fn extent_of(refusal: Refusal, at: usize) -> Extent
 }
 
 fn continuation_run(bytes: &[u8]) -> usize
-    ensures { result ≡ prefix_len spec.is_continuation bytes.now }
+    ensures run { result ≡ prefix_len spec.is_continuation bytes.now }
+    ensures within { result ≤ length bytes.now }
 {
     bytes.iter().take_while(|b| is_continuation(**b)).count()
 }

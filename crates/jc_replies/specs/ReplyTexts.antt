@@ -53,7 +53,7 @@ stuck_member B n why event =
 -- a position, how a run to it ended, its event, and what else is told
 abbrev pub move_answer : Background → ℕ → List NamedText → List NamedText → List ℕ
 move_answer B n end more =
-    object_text (number_member (codes "at") n ++ end ++ event_member B.names (event_to B n) ++ more)
+    object_text (number_member (codes "at") n ++ (end ++ (event_member B.names (event_to B n) ++ more)))
 
 abbrev pub went_answer : Background → ℕ → Option StuckEvent → List ℕ
 went_answer B n None = move_answer B n [] []
