@@ -116,11 +116,7 @@ fn separate(out: &mut Vec<u8>) -> Result<(), AllocError>
 }
 
 /// Appends a member to an object without its end.
-fn push_member(
-    out: &mut Vec<u8>,
-    name: &str,
-    value: Option<Value<'_>>,
-) -> Result<(), AllocError>
+fn push_member(out: &mut Vec<u8>, name: &str, value: Option<Value<'_>>) -> Result<(), AllocError>
     ensures { OnOk result ((ms : List NamedText)
         → out.old.items ≡ object_begun ms
         → out.new.items ≡ object_begun (ms ++ named name.now value.entry)) }

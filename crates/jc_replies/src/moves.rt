@@ -60,7 +60,10 @@ pub(crate) fn position_with<'a>(
     match event_here(debugger, given) {
         Some(event) => {
             let text = print_event(alloc, debugger.net().names(), &event)?;
-            object_text(alloc, &[at, end, Member::string("event", text.as_str()), more])
+            object_text(
+                alloc,
+                &[at, end, Member::string("event", text.as_str()), more],
+            )
         }
         None => object_text(alloc, &[at, end, more]),
     }

@@ -71,11 +71,7 @@ fn push_event(
 }
 
 /// The texts of events.
-pub(crate) fn events(
-    alloc: Global,
-    names: &[Text],
-    events: &[Event],
-) -> Result<Vec<u8>, AllocError>
+pub(crate) fn events(alloc: Global, names: &[Text], events: &[Event]) -> Result<Vec<u8>, AllocError>
     requires { All (λ e. AreNamed e (length names.now)) events.now }
     ensures { IfOk result (λ answer. answer.items ≡ events_answer names.now events.now) }
 {
