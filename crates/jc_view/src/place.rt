@@ -1,42 +1,23 @@
 //! What is shown at a cursor of a replica's document, and the line that has it, for requests of programs.
 
-ghost use Rattle.std.specs.Prelude.{◌≡◌, ◌≤◌, ◌↔◌, [], ◌++◌, codes, is_some, Some, None, Ok, length, take, slice_get, IfOk, IfSome, OnOk, IsErrOf, cond};
-ghost use Rattle.json.specs.Token as T;
-ghost use Rattle.json.specs.Tree.{json_tokens};
+ghost use Rattle.std.specs.Prelude.{◌≡◌, ◌≤◌, ◌↔◌, codes, Some, length, slice_get, IfOk, OnOk, IsErrOf};
 ghost use Rattle.jc_rules.specs.ContextsAt.{node_at};
 ghost use Rattle.jc_rules.specs.ReplicaNames.{name_at};
 ghost use Rattle.jc_rules.specs.State.{State};
 ghost use Rattle.jc_rules.specs.WellFormed.{IsChained};
 ghost use Rattle.jc_json.specs.Gains.{Gains};
 ghost use Rattle.jc_network.specs.declared.fault.CompareFault.TheVariants as E;
-ghost use Rattle.jc_tree.specs.Tree.{HasPlace};
 ghost use Rattle.jc_view.specs.Parts.{member_tokens};
-ghost use Rattle.jc_view.specs.Places.{shown_at, shown_in, place_line};
+ghost use Rattle.jc_view.specs.Places.{shown_in, place_line};
 ghost use Rattle.jc_view.specs.Visible.{goes_by};
 
 use crate::document::{is_present, write_place};
 use jc_network::{CompareFault, Net};
 use jc_replica::Replica;
 use jc_rules::{Cursor, Tagged, Text, name_at};
-use jc_tree::{Place, TreeStore};
+use jc_tree::{TreeStore, is_place, place_of};
 use json::Writer;
 use std::alloc::{AllocError, Global};
-
-/// The store's name for the context at a path, if there is one.
-fn place_at<S: TreeStore>(store: &S, path: &[Tagged]) -> Option<Place>
-    ensures there { IfSome result (λ place. HasPlace path.now (S.tree store.now)) }
-    ensures named { IfSome result (λ place. S.names store.now place path.now) }
-    ensures none { result ≡ None → node_at path.now (S.tree store.now).now ≡ None }
-{
-    let mut place = store.root();
-    for (depth, tagged) in path.iter().enumerate() {
-        match store.below(place, &path[..depth], tagged) {
-            Some(child) => place = child,
-            None => return None,
-        }
-    }
-    Some(place)
-}
 
 /// A copy of a path.
 fn copy_path(alloc: Global, path: &[Tagged]) -> Result<Vec<Tagged>, AllocError>
@@ -64,13 +45,23 @@ fn write_shown<S: TreeStore>(
         (node_at cursor.now.path (S.tree store.now).now) cursor.now.last))) }
 {
     let path = cursor.path.as_slice();
-    let Some(place) = place_at(store, path) else {
+    if !is_place(store, path) {
         return Ok(());
-    };
+    }
+    let place = place_of(store, path);
     if is_present(store, place, path, &cursor.last) {
         let mut at = copy_path(alloc, path)?;
         out.key("doc")?;
-        write_place(alloc, names, replica, store, place, &mut at, &cursor.last, out)?;
+        write_place(
+            alloc,
+            names,
+            replica,
+            store,
+            place,
+            &mut at,
+            &cursor.last,
+            out,
+        )?;
     }
     Ok(())
 }
