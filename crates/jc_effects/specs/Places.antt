@@ -1,5 +1,5 @@
 -- Whether something differs at a place or below it: the contract of `differs_at` cites it.
-use Rattle.std.specs.Prelude.{List, [], ◌∷◌, Bool, cond, Option, Some, None}
+use Rattle.std.specs.Prelude.{List, [], ◌∷◌, Bool, cond}
 use Rattle.jc_rules.specs.declared.key.Key.{Key}
 use Rattle.jc_rules.specs.declared.key.Tagged.{Tagged}
 use Rattle.jc_rules.specs.declared.key.Tagged.TheVariants.{MapT, ListT, RegT}

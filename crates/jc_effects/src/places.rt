@@ -24,7 +24,7 @@ fn under<'a>(effects: &'a Effects, tagged: &Tagged) -> Option<&'a Effects>
     ensures { or_nothing result ≡ differences_under tagged.now (differences_of effects.now) }
 {
     let mut rest = effects;
-    'places: while let Effects::Place(key, _, map, list, more) = rest {
+    while let Effects::Place(key, _, map, list, more) = rest {
         if key == tagged.key() {
             return part_under(tagged, map, list);
         }
@@ -38,7 +38,7 @@ fn is_listed(effects: &Effects, key: &Key) -> bool
     ensures { result ≡ is_listed key.now (differences_of effects.now) }
 {
     let mut rest = effects;
-    'places: while let Effects::Place(own, _, _, _, more) = rest {
+    while let Effects::Place(own, _, _, _, more) = rest {
         if key == own {
             return true;
         }
