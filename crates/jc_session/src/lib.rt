@@ -11,6 +11,6 @@ mod request;
 mod sessions;
 mod texts;
 
-pub use replies::{Reply, reply_to};
+pub use replies::{Reply, Spelling, event_of, number_of, reply_to, rule_of};
 pub use request::{Meaning, Request, meaning_of};
 pub use sessions::{SessionEnd, SessionFault, session};
