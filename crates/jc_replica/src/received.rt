@@ -221,7 +221,8 @@ impl Received {
         let fresh = new_ones(alloc, self.ops.as_slice(), &offered[start..])?;
         let came = ids_of(alloc, fresh.as_slice())?;
         let place = first_place(self.ops.as_slice(), fresh.as_slice());
-        self.ops.widen(alloc, place)?;
+        // Where there is no memory for room in front, the others are moved.
+        let _ = self.ops.widen(alloc, place);
         self.ops.reserve(fresh.len())?;
         let counter = whole_to(self.ops.as_slice(), &offered[start..], sender, last);
         self.contiguous.insert(Id {
