@@ -5,4 +5,5 @@ pub mod TreeReaderLemmas
 mod LookAheadListsLemmas
 pub mod ScenarioGrammarLemmas
 mod ExamplesLemmas
-mod LimitsLemmas
+pub mod LimitsLemmas
+pub mod PrefixLemmas

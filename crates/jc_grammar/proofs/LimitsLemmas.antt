@@ -12,15 +12,15 @@ use Rattle.jc_grammar.specs.ScenarioGrammar.{token, command, event}
 use Rattle.jc_grammar.specs.Limits.{items_in, LimitsKept}
 use Rattle.jc_grammar.proofs.LookAheadLemmas.{has_first}
 
-abbrev RefusesEach : Guard → Type 0
+abbrev pub RefusesEach : Guard → Type 0
 RefusesEach c = (s : GuardState) (x : Lexeme) → (e : TextFault) × (verdict_of c s x ≡ refuses e)
 
-both_none : (a b : Option NoticedFault) → first_of a b ≡ None → (a ≡ None) × (b ≡ None)
+pub both_none : (a b : Option NoticedFault) → first_of a b ≡ None → (a ≡ None) × (b ≡ None)
 both_none None b e = (refl, e)
 both_none (Some d) b e = absurd cc
 
 -- a part with such a guard is refused
-is_refused : (c : Guard) (x : Grammar) → RefusesEach c → may_be_empty x ≡ false → (s : GuardState) (t : ParseTree x) (u : List Lexeme) → first_refusal (guarded c x) s t u ≡ None → ⊥
+pub is_refused : (c : Guard) (x : Grammar) → RefusesEach c → may_be_empty x ≡ false → (s : GuardState) (t : ParseTree x) (u : List Lexeme) → first_refusal (guarded c x) s t u ≡ None → ⊥
 is_refused c x each full s t u none =
     let (z, zs, text) = has_first x t full in
     let (e, verdict) = each s z in

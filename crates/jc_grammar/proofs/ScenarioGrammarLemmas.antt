@@ -50,7 +50,7 @@ in_braces =
 script_decided : is_decided script [] ≡ true
 script_decided = listed_decided MAX_COMMANDS no_command command (token Semi) [] (rw (alone, last_alone) refl)
 
-closed_decided : is_decided script (any BraceR ∷ []) ≡ true
+pub closed_decided : is_decided script (any BraceR ∷ []) ≡ true
 closed_decided =
     listed_decided MAX_COMMANDS no_command command (token Semi) (any BraceR ∷ []) (rw (in_braces, last_in_braces) refl)
 

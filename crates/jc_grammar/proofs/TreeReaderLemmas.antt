@@ -162,7 +162,7 @@ first_assoc : (a b c : Option NoticedFault) → first_of (first_of a b) c ≡ fi
 first_assoc None b c = refl
 first_assoc (Some e) b c = refl
 
-first_none : (v : Option NoticedFault) → first_of v None ≡ v
+pub first_none : (v : Option NoticedFault) → first_of v None ≡ v
 first_none None = refl
 first_none (Some e) = refl
 
@@ -265,7 +265,7 @@ starts_with (g or h) ds d cs x i =
 starts_with (guarded c g) ds d cs x i = starts_with g ds (both_true (not (may_be_empty g)) (is_decided g ds) d).1 cs x i
 
 -- a guard looks at the first lexeme alone
-verdict_front : (c : Guard) (s : GuardState) (a u : List Lexeme) → HasFirst a → verdict_at c s (a ++ u) ≡ verdict_at c s a
+pub verdict_front : (c : Guard) (s : GuardState) (a u : List Lexeme) → HasFirst a → verdict_at c s (a ++ u) ≡ verdict_at c s a
 verdict_front c s a u (x, xs, e) = rw e refl
 
 verdict_same : (c : Guard) (s : GuardState) (before : List Lexeme) (x : Lexeme) (a b : List Lexeme) → verdict_at c s (before ++ x ∷ a) ≡ verdict_at c s (before ++ x ∷ b)

@@ -12,6 +12,10 @@ Language T = T → Option NoticedFault → List Lexeme → Type 0
 abbrev pub IsTreeText : (g : Grammar) → GuardState → Language (ParseTree g)
 IsTreeText g s t e ls = FitsClasses g t × (first_refusal g s t [] ≡ e) × (leaves g t ≡ ls)
 
+-- the same, with lexemes behind a tree that are none of its own
+abbrev pub IsTreeBefore : (g : Grammar) → GuardState → Language (ParseTree g × List Lexeme)
+IsTreeBefore g s t e ls = FitsClasses g t.0 × (first_refusal g s t.0 t.1 ≡ e) × (leaves g t.0 ++ t.1 ≡ ls)
+
 -- some sentence begins so, whatever the guards refuse
 abbrev pub BeginsSentence : {T : Type 0} → Language T → List Lexeme → Type 0
 BeginsSentence {T} L w = (t : T) × (e : Option NoticedFault) × (more : List Lexeme) × L t e (w ++ more)

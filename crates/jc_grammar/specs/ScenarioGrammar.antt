@@ -90,6 +90,10 @@ command = keyword (codes "yield") or binding or change
 abbrev pub script : Grammar
 script = listed MAX_COMMANDS no_command command (token Semi)
 
+-- a script and the brace that closes it
+abbrev pub closed_script : Grammar
+closed_script = script then token BraceR
+
 -- ---- LANGUAGE.md, "Events", and for `take` "One operation at a time"
 
 -- identifier
@@ -140,7 +144,7 @@ blocks Two = (given or nothing) then (schedule Two or nothing)
 
 -- replica, behind its word
 abbrev pub replica : Grammar
-replica = guarded (new_replica MAX_REPLICAS) (token Name) then token BraceL then script then token BraceR
+replica = guarded (new_replica MAX_REPLICAS) (token Name) then token BraceL then closed_script
 
 -- scenario, behind the version: one replica or more, and the blocks
 abbrev pub body : Version → Grammar

@@ -10,9 +10,9 @@ use Rattle.jc_rules.specs.Syntax.{Expr}
 use Rattle.jc_parser.specs.declared.fault.ScenarioFault.{ScenarioFault}
 use Rattle.jc_parser.specs.declared.fault.ScenarioFault.TheVariants.{TooLongExpression}
 use Rattle.jc_parser.specs.ReaderState.{Reading, begins, has_kind, skip, place}
-use Rattle.jc_parser.specs.Expressions.{is_numeral, numeral_value, Selector, is_selector, extended}
-use Rattle.jc_parser.specs.ExpressionReader.{step_at, chain_at}
-use Rattle.jc_parser.proofs.TestAnswersLemmas.{both_true}
+use Rattle.jc_grammar.specs.SymbolTests.{is_numeral, numeral_value}
+use Rattle.jc_parser.specs.ExpressionReader.{Selector, is_selector, extended, step_at, chain_at}
+use Rattle.jc_grammar.proofs.LookAheadLemmas.{both_true}
 
 pub chain_done : (n : ℕ) (e : Expr) (r : Reading) → begins (has_kind Dot) r ≡ false → chain_at n e r ≡ Ok (record { expression = e; dotted = false }, r)
 unfolding chain_at

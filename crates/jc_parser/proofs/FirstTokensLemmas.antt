@@ -5,8 +5,8 @@ use Rattle.jc_syntax.specs.declared.token.Token.{Token}
 use Rattle.jc_syntax.specs.declared.token.TokenKind.{TokenKind}
 use Rattle.jc_syntax.specs.declared.token.TokenKind.TheVariants.{Name, Number, Str}
 use Rattle.jc_syntax.specs.Lexemes.{token_bytes, token_content}
-use Rattle.jc_parser.specs.Symbols.{Symbol, word, number, string, symbol_of, Lexeme, lexeme}
-use Rattle.jc_parser.specs.Expressions.{is_selector}
+use Rattle.jc_grammar.specs.Symbols.{Symbol, word, number, string, symbol_of, Lexeme, lexeme}
+use Rattle.jc_parser.specs.ExpressionReader.{is_selector}
 use Rattle.jc_parser.specs.ScriptReader.{is_misused}
 use Rattle.jc_parser.specs.ReaderState.{Reading, ReadOutcome, reading_of, begins, begins_with, kind_of_symbol, same_kind, has_kind, is_word, is_number_symbol, reserved, value_of_symbol, take_one, one, skip, named_at, stuck, stuck_at}
 use Rattle.jc_parser.specs.ReaderState as readings

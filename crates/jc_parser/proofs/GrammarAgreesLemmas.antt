@@ -16,7 +16,13 @@ use Rattle.jc_grammar.specs.Limits.{either}
 use Rattle.jc_parser.specs.declared.fault.ScenarioFault.{ScenarioFault}
 use Rattle.jc_parser.specs.declared.fault.ScenarioFault.TheVariants.{BadByte, OpenString, BadEscape, LoneSurrogate, BadNumber, TextTooLong, Unexpected, EndOfText, IndexTooLarge, ReservedName, TooManyCommands, TooLongExpression, NotUtf8, NoHeader, SameName, NoReplica, TooManyReplicas, UnknownReplica, TooManyEvents, Memory}
 use Rattle.jc_parser.specs.ReaderState.{Reading, ReadOutcome, ◌>>=◌, begins_with, one, skip}
-use Rattle.jc_parser.proofs.PartsReadLemmas.{reading}
+
+abbrev pub reading : ℕ → List Lexeme → Reading
+reading stop ls = record { left = ls; stop = stop }
+
+-- a symbol at an offset
+abbrev pub at_place : ℕ → Symbol → Lexeme
+at_place p s = record { place = p; symbol = s }
 
 -- a refusal of a text at an offset, as a fault of a scenario; the other refusals are those of no text
 abbrev pub refusal_as : Refusal → ℕ → ScenarioFault

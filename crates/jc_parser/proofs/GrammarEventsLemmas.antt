@@ -1,6 +1,6 @@
--- About `GrammarTrees`: the readers of events read what the grammar's reader reads, and so the two say the same.
-use Rattle.std.proofs.Common.{◌≡◌, ℕ, inl, inr, ◌⊎◌, true, List, [], ◌∷◌, Result, Ok, Err, refl, sym, ap, ◌∙◌}
-use Rattle.std.specs.Prelude.{codes, nat_lt}
+-- About `Events`: the readers of events read what the grammar's reader reads, and so what is read is the event.
+use Rattle.std.proofs.Common.{◌≡◌, ℕ, inl, inr, true, List, [], ◌∷◌, Result, Ok, refl}
+use Rattle.std.specs.Prelude.{codes, nat_lt, IfErr}
 use Rattle.std.proofs.lemmas.Bool.{cases_Bool}
 use Rattle.jc_rules.specs.declared.version.Version.{Version}
 use Rattle.jc_rules.specs.declared.version.Version.TheVariants.{One, Two}
@@ -8,38 +8,29 @@ use Rattle.jc_syntax.specs.declared.token.TokenKind.TheVariants.{Name, Dot, Pare
 use Rattle.jc_syntax.specs.declared.tree.Named.{Named}
 use Rattle.jc_syntax.specs.declared.tree.NamedEvent.{NamedEvent}
 use Rattle.jc_syntax.specs.declared.tree.NamedEvent.TheVariants.{Exec, Send, Recv, Take, Apply, Done}
-use Rattle.jc_grammar.specs.Symbols.{Symbol, number, Lexeme, symbols}
+use Rattle.jc_grammar.specs.Symbols.{Symbol, number, Lexeme}
 use Rattle.jc_grammar.specs.SymbolTests.{has_kind, is_word, is_numeral, numeral_value}
 use Rattle.jc_grammar.specs.Classes.{any}
 use Rattle.jc_grammar.specs.Guards.{GuardState}
 use Rattle.jc_grammar.specs.Grammar.{◌then◌, ParseTree}
 use Rattle.jc_grammar.specs.TreeReader.{read_tree}
 use Rattle.jc_grammar.proofs.ScenarioGrammarLemmas.{scenarios_decided}
-use Rattle.jc_grammar.specs.Guards.{nothing_seen}
-use Rattle.jc_grammar.specs.TreeReader.{read_whole}
 use Rattle.jc_grammar.specs.ScenarioGrammar.{token, keyword, index, in_parens, identifier, common_action, action, event, misfit_at}
 use Rattle.jc_grammar.specs.Limits.{either}
 use Rattle.jc_parser.specs.declared.fault.ScenarioFault.{ScenarioFault}
-use Rattle.jc_parser.specs.declared.fault.ScenarioFault.TheVariants.{Memory}
-use Rattle.jc_parser.specs.ReaderState.{Reading, ◌>>=◌, one, skip, named_at}
+use Rattle.jc_parser.specs.ReaderState.{Reading, MapsResult, ◌>>=◌, one, skip, named_at}
 use Rattle.jc_parser.specs.ExpressionReader.{index_at}
 use Rattle.jc_parser.specs.EventReader.{last_name_at, sender_at, last_identifier_at, taking_at, application_at, common_action_at, action_at, any_event_at}
 use Rattle.jc_parser.specs.EventReader.{only_event_at}
-use Rattle.jc_parser.specs.PartReaders.{result_of_read}
-use Rattle.jc_parser.specs.Events.{call_of, IsCallSpelled, IsCallWellFormed, IsCallExcess, IsEvent}
-use Rattle.jc_parser.specs.Sentences.{IsStopped}
-use Rattle.jc_parser.specs.GrammarClaims.{IsSaidEvent, IsSaidEventFault}
-use Rattle.jc_parser.specs.GrammarLaws.{IsReadAs, SameEvents, SameEventFaults}
 use Rattle.jc_parser.specs.GrammarTrees.{number_of, named, inside, counter_of, author_of, taken, take_of_tree, common_of_tree, action_of_tree, event_of_tree}
-use Rattle.jc_parser.proofs.PartsReadLemmas.{reading, at_place, IsPast, not_past}
-use Rattle.jc_parser.proofs.SentencesLemmas.{one_sentence}
-use Rattle.jc_parser.proofs.SentenceLawsLemmas.{no_stop, one_stop}
-use Rattle.jc_parser.proofs.EventReaderLemmas.{call_at}
-use Rattle.jc_parser.proofs.EventsReadLemmas.{reads_spelled, has_limits}
-use Rattle.jc_parser.proofs.EventsLemmas.{whole_ok, whole_err, call_err}
-use Rattle.jc_parser.proofs.EventLawsLemmas.{same_event}
-use Rattle.jc_parser.proofs.GrammarSaidLemmas.{IsExactly, exactly_by, exactly_so, reads_said, reads_as, whole_same, given_whole, stopped_remembers, same_trees, same_faults}
-use Rattle.jc_parser.proofs.GrammarAgreesLemmas.{given, Agrees, agrees_map, agrees_then, agrees_or, agrees_one, agrees_mark, agrees_word, agrees_as, agrees_assoc, or_false}
+use Rattle.jc_parser.proofs.GrammarAgreesLemmas.{reading, at_place, given, Agrees, agrees_map, agrees_then, agrees_or, agrees_one, agrees_mark, agrees_word, agrees_as, agrees_assoc, or_false}
+use Rattle.jc_grammar.specs.LookAhead.{is_decided}
+use Rattle.jc_grammar.proofs.PrefixLemmas.{each_class}
+use Rattle.jc_parser.specs.Faults.{IsOfSentence}
+use Rattle.jc_parser.specs.Events.{IsEvent, IsNoEvent}
+use Rattle.jc_parser.proofs.GuardsLemmas.{event_sentences}
+use Rattle.jc_parser.proofs.SentencesLemmas.{IsExactly, agrees_exactly, kind_so}
+use Rattle.jc_parser.proofs.PrefixLemmas.{IsAheadReader}
 
 pub agrees_name : Agrees (token Name) named named_at
 unfolding named_at
@@ -139,47 +130,20 @@ agrees_event v =
     agrees_then (λ t u. action_of_tree v (named t) u.1) (λ p r. skip (has_kind Dot) r >>= λ a. action_at v p a.1) agrees_name
     (λ t. agrees_then (λ u w. action_of_tree v (named t) w) (λ _ r. action_at v (named t) r) (agrees_mark Dot) (λ u. agrees_action v (named t)))
 
--- ---- the same events, the same faults
+-- ---- what is read
 
--- what is an event by the definitions is read
-event_again : (v : Version) (stop : ℕ) (e : NamedEvent) (ls : List Lexeme) → IsEvent v e ls → only_event_at v (reading stop ls) ≡ Ok e
+pub exactly : (v : Version) (r : Reading) → IsExactly (IsEvent v r.left) (IsNoEvent v r) (only_event_at v r)
 unfolding only_event_at
-event_again v stop e ls is = by_read (only_event_at v (reading stop ls)) refl (reads_spelled v true (call_of e) ls stop is.spelled is.within)
-  where
-    by_read : (read : Result NamedEvent ScenarioFault) → only_event_at v (reading stop ls) ≡ read
-        → ((call_at v (reading stop ls) >>= result_of_read) ≡ Ok (call_of e)) ⊎ IsPast true (call_at v (reading stop ls) >>= result_of_read) → only_event_at v (reading stop ls) ≡ Ok e
-    by_read read h (inr past) = absurd (not_past true (call_at v (reading stop ls) >>= result_of_read) refl past)
-    by_read (Err d) h (inl spelled) = let bad : Err d ≡ Ok (call_of e) = sym (call_err (any_event_at v (reading stop ls)) d h) ∙ spelled in absurd cc
-    by_read (Ok other) h (inl spelled) =
-        let own = whole_ok v (reading stop ls) other h in
-        let call : call_of e ≡ call_of other = one_sentence (IsCallSpelled v) IsCallWellFormed (call_at v) (reads_spelled v) (symbols ls) (call_of e) (call_of other) is.within is.spelled own.spelled in
-        h ∙ ap (λ (x : NamedEvent). Ok x) (sym (same_event e other ls call is.placed own.placed))
+exactly v r = agrees_exactly (agrees_event v) (scenarios_decided.2 v) r
 
-defined : (v : Version) (r : Reading) → IsExactly (λ e. IsEvent v e r.left) (IsStopped (IsCallSpelled v) IsCallWellFormed (IsCallExcess v) r) (only_event_at v r)
-defined v r =
-    exactly_by (only_event_at v r) (whole_ok v r) (whole_err v r)
-    (λ a b one two. let both : Ok a ≡ Ok b = sym (event_again v r.stop a r.left one) ∙ event_again v r.stop b r.left two in cc)
-    (λ a e is stopped. no_stop (IsCallSpelled v) IsCallWellFormed (IsCallExcess v) (call_at v) (reads_spelled v) (has_limits v) r (call_of a) e is.spelled is.within stopped)
-    (λ d e one two. one_stop (IsCallSpelled v) IsCallWellFormed (IsCallExcess v) (call_at v) (reads_spelled v) (has_limits v) r d e one two)
-
-read_same : (v : Version) (r : Reading) → only_event_at v r ≡ given_whole (event_of_tree v) (read_whole (event v) (misfit_at r.stop) nothing_seen r.left)
+pub event_kind : {X : Type 0} (v : Version) (r : Reading) (view : X → NamedEvent) (result : Result X ScenarioFault) → MapsResult view result (only_event_at v r) → IfErr result IsOfSentence
 unfolding only_event_at
-read_same v r = whole_same (agrees_event v) r.stop r.left
+event_kind v r view result h = kind_so (agrees_event v) (event_sentences v) r view result h
 
-no_memory : (v : Version) (xs : List Symbol) (after : List Lexeme) → IsCallExcess v Memory xs after → ⊥
-no_memory v xs after excess = excess
+-- an event begins the lexemes
+decided : (v : Version) → is_decided (event v) each_class ≡ true
+decided One = refl
+decided Two = refl
 
-pub remembers : (v : Version) (r : Reading) → only_event_at v r ≡ Err Memory → ⊥
-remembers v r h = stopped_remembers (IsCallSpelled v) IsCallWellFormed (IsCallExcess v) (no_memory v) r (whole_err v r Memory h)
-
-pub said : (v : Version) (r : Reading) → IsExactly (IsSaidEvent v r.left) (IsSaidEventFault v r) (only_event_at v r)
-said v r = exactly_so (only_event_at v r) (read_same v r) (reads_said (event v) (scenarios_decided.2 v) (misfit_at r.stop) (event_of_tree v) r.left (λ h. remembers v r (read_same v r ∙ h)))
-
-pub read_as_said : (v : Version) (r : Reading) → IsReadAs (event_of_tree v) (read_whole (event v) (misfit_at r.stop) nothing_seen r.left) (only_event_at v r)
-read_as_said v r = reads_as (event_of_tree v) (read_whole (event v) (misfit_at r.stop) nothing_seen r.left) (only_event_at v r) (read_same v r) (remembers v r)
-
-pub same_events : SameEvents
-same_events v ls e = same_trees (said v (reading 0 ls)) (defined v (reading 0 ls)) e
-
-pub same_event_faults : SameEventFaults
-same_event_faults v r fault = same_faults (said v r) (defined v r) fault
+pub ahead : (v : Version) → IsAheadReader (event v) (event_of_tree v) (any_event_at v)
+ahead v = record { agrees = agrees_event v; decided = decided v; sentences = event_sentences v }

@@ -1,40 +1,35 @@
--- About `GrammarTrees`: the readers of expressions read what the grammar's reader reads, and so the two say the same.
-use Rattle.std.proofs.Common.{◌≡◌, ℕ, zero, suc, inl, inr, Bool, true, false, ◌||◌, cond, List, [], ◌∷◌, Ok, Err, refl, sym, ap, subst, ◌∙◌}
-use Rattle.std.specs.Prelude.{codes}
+-- About `Expressions`: the readers of expressions read what the grammar's reader reads, and so what is read is the
+-- expression.
+use Rattle.std.proofs.Common.{◌≡◌, ℕ, zero, suc, inl, inr, Bool, true, false, ◌||◌, cond, List, [], ◌∷◌, Result, Ok, Err, refl, sym, ap, subst, ◌∙◌}
+use Rattle.std.specs.Prelude.{codes, IfErr}
 use Rattle.std.specs.Str.{bytes_eq}
 use Rattle.std.proofs.lemmas.Bool.{cases_Bool}
 use Rattle.jc_rules.specs.Syntax.{Expr}
 use Rattle.jc_rules.specs.declared.limits.TheConstants.{MAX_SELECTORS}
 use Rattle.jc_syntax.specs.declared.token.TokenKind.TheVariants.{Str, Dot, ParenL, ParenR}
-use Rattle.jc_grammar.specs.Symbols.{Symbol, word, Lexeme, symbols}
+use Rattle.jc_grammar.specs.Symbols.{Symbol, word, Lexeme}
 use Rattle.jc_grammar.specs.SymbolTests.{has_kind, is_word, is_reserved}
 use Rattle.jc_grammar.specs.Classes.{any}
-use Rattle.jc_grammar.specs.Guards.{GuardState, nothing_seen, no_selector}
+use Rattle.jc_grammar.specs.Guards.{GuardState, no_selector}
 use Rattle.jc_grammar.specs.Grammar.{nothing, ◌then◌, ◌or◌, guarded, ParseTree, repeated}
 use Rattle.jc_grammar.specs.LookAhead.{is_of_any, first_classes}
-use Rattle.jc_grammar.specs.TreeReader.{TreeOutcome, ◌⟫◌, with_tree, pair_of, read_tree, read_whole}
+use Rattle.jc_grammar.specs.TreeReader.{TreeOutcome, ◌⟫◌, with_tree, pair_of, read_tree}
 use Rattle.jc_grammar.specs.ScenarioGrammar.{token, keyword, in_parens, index, selector, root_but, selector_dot, expression, misfit_at}
 use Rattle.jc_grammar.proofs.ScenarioGrammarLemmas.{scenarios_decided}
 use Rattle.jc_grammar.specs.Limits.{either}
 use Rattle.jc_parser.specs.declared.fault.ScenarioFault.{ScenarioFault}
-use Rattle.jc_parser.specs.declared.fault.ScenarioFault.TheVariants.{TooLongExpression, Memory}
-use Rattle.jc_parser.specs.ReaderState.{Reading, ◌>>=◌, stuck_at, begins_with, one, skip, take, named_at}
+use Rattle.jc_parser.specs.declared.fault.ScenarioFault.TheVariants.{TooLongExpression}
+use Rattle.jc_parser.specs.ReaderState.{Reading, ReadOutcome, MapsResult, ◌>>=◌, place_at, stuck_at, begins_with, one, skip, take, named_at}
 use Rattle.jc_parser.specs.PartReaders.{get_at, read_name_at}
-use Rattle.jc_parser.specs.Expressions.{Selector, by_key, by_index, by_keys, by_values, is_selector, extended, IsExpressionText, IsWellFormedExpression}
-use Rattle.jc_parser.specs.ExpressionReader.{index_at, key_selector_at, index_selector_at, step_at, chain_at, undotted, doc_at, variable_at, root_at, expression_at, only_expression_at}
-use Rattle.jc_parser.specs.ExpressionFaults.{IsExpressionExcess}
-use Rattle.jc_parser.specs.Sentences.{IsStopped}
+use Rattle.jc_parser.specs.ExpressionReader.{Selector, by_key, by_index, by_keys, by_values, is_selector, extended, index_at, key_selector_at, index_selector_at, step_at, chain_at, undotted, doc_at, variable_at, root_at, expression_at, only_expression_at}
 use Rattle.jc_parser.specs.GrammarTrees.{value_of, number_of, inside, selected, root_of_tree, path_of_tree, expression_of_tree}
-use Rattle.jc_parser.specs.GrammarClaims.{IsSaidExpression, IsSaidExpressionFault}
-use Rattle.jc_parser.specs.GrammarLaws.{IsReadAs, SameExpressions, SameExpressionFaults}
-use Rattle.jc_parser.proofs.PartsReadLemmas.{reading, at_place}
-use Rattle.jc_parser.proofs.ExpressionReadersLemmas.{steps_at, step_none, undotted_is}
-use Rattle.jc_parser.proofs.ExpressionReaderLemmas.{reads_expression}
-use Rattle.jc_parser.proofs.ExpressionLimitsLemmas.{has_limits}
-use Rattle.jc_parser.proofs.ExpressionsLemmas.{reads_spelled}
-use Rattle.jc_parser.proofs.GrammarAgreesLemmas.{fault_as, given, given_with, Agrees, agrees_map, agrees_then, agrees_or, agrees_one, agrees_mark, agrees_word, agrees_nothing, agrees_as, agrees_so, or_false}
-use Rattle.jc_parser.proofs.GrammarSaidLemmas.{IsExactly, exactly_so, reads_said, reads_as, whole_same, given_whole, stopped_remembers, same_trees, same_faults, sentence_exactly}
+use Rattle.jc_parser.proofs.GrammarAgreesLemmas.{reading, at_place, fault_as, given, given_with, Agrees, agrees_map, agrees_then, agrees_or, agrees_one, agrees_mark, agrees_word, agrees_nothing, agrees_as, agrees_so, or_false}
 use Rattle.jc_parser.proofs.GrammarEventsLemmas.{agrees_index}
+use Rattle.jc_rules.proofs.BoolLemmas.{neither}
+use Rattle.jc_parser.specs.Faults.{IsOfSentence}
+use Rattle.jc_parser.specs.Expressions.{IsExpression, IsNoExpression}
+use Rattle.jc_parser.proofs.GuardsLemmas.{expression_sentences}
+use Rattle.jc_parser.proofs.SentencesLemmas.{IsExactly, agrees_exactly, kind_so}
 
 -- ---- selectors
 
@@ -125,6 +120,53 @@ agrees_root = record { same = by_first }
 
 -- ---- selectors in a row
 
+-- at most n selectors, and no dot at the end
+unfoldable pub steps_at : ℕ → Expr → Reading → ReadOutcome Expr
+steps_at zero e r =
+    cond (begins_with (has_kind Dot) r.left)
+    (skip (has_kind Dot) r >>= λ a. cond (begins_with is_selector a.1.left) (Err (TooLongExpression (place_at r.stop r.left))) (Err (stuck_at a.1.stop a.1.left)))
+    (Ok (e, r))
+steps_at (suc n) e r =
+    cond (begins_with (has_kind Dot) r.left)
+    (skip (has_kind Dot) r >>= λ a. step_at a.1 >>= λ s. steps_at n (extended e s.0) s.1)
+    (Ok (e, r))
+
+step_none : (stop : ℕ) (ls : List Lexeme) → begins_with is_selector ls ≡ false → step_at (reading stop ls) ≡ Err (stuck_at stop ls)
+unfolding step_at one
+step_none stop [] other = refl
+step_none stop (x ∷ xs) other =
+    let (no_get, rest) = neither (is_word (codes "get") x.symbol) _ other in
+    let (no_idx, more) = neither (is_word (codes "idx") x.symbol) _ rest in
+    let (no_keys, no_values) = neither (is_word (codes "keys") x.symbol) _ more in
+    rw (no_get, no_idx, no_keys, no_values) refl
+
+after_step : (n : ℕ) (e : Expr) (read : ReadOutcome Selector) → ((s : Selector) (t : Reading) → (chain_at n (extended e s) t >>= undotted) ≡ steps_at n (extended e s) t) → ((read >>= λ s. chain_at n (extended e s.0) s.1) >>= undotted) ≡ (read >>= λ s. steps_at n (extended e s.0) s.1)
+after_step n e (Ok x) same = same x.0 x.1
+after_step n e (Err d) same = refl
+
+undotted_is : (n : ℕ) (e : Expr) (stop : ℕ) (ls : List Lexeme) → (chain_at n e (reading stop ls) >>= undotted) ≡ steps_at n e (reading stop ls)
+unfolding chain_at steps_at one
+undotted_is zero e stop [] = refl
+undotted_is (suc n) e stop [] = refl
+undotted_is zero e stop (x ∷ xs) =
+    elim (cases_Bool (has_kind Dot x.symbol)) [
+      | inl fits ↦
+          elim (cases_Bool (begins_with is_selector xs)) [
+            | inl selector ↦ rw (fits, selector) refl
+            | inr other ↦ rw (fits, other) refl
+          ]
+      | inr none ↦ rw none refl
+    ]
+undotted_is (suc n) e stop (x ∷ xs) =
+    elim (cases_Bool (has_kind Dot x.symbol)) [
+      | inl fits ↦
+          elim (cases_Bool (begins_with is_selector xs)) [
+            | inl selector ↦ rw (fits, selector) (after_step n e (step_at (reading stop xs)) (λ s t. undotted_is n (extended e s) t.stop t.left))
+            | inr other ↦ rw (fits, other, step_none stop xs other) refl
+          ]
+      | inr none ↦ rw none refl
+    ]
+
 -- the guard of the dot only remembers
 pub agrees_dot : Agrees selector_dot (λ x. tt) (skip (has_kind Dot))
 unfolding one
@@ -191,30 +233,12 @@ agrees_expression =
     (λ t. agrees_so (λ r. chain_at MAX_SELECTORS (root_of_tree (codes "doc" ∷ []) t) r >>= λ c. undotted c) (λ r. undotted_is MAX_SELECTORS (root_of_tree (codes "doc" ∷ []) t) r.stop r.left)
     (agrees_path MAX_SELECTORS (root_of_tree (codes "doc" ∷ []) t)))
 
--- ---- the same expressions, the same faults
+-- ---- what is read
 
-defined : (r : Reading) → IsExactly (λ e. IsExpressionText e (symbols r.left) × IsWellFormedExpression e) (IsStopped IsExpressionText IsWellFormedExpression IsExpressionExcess r) (only_expression_at r)
+pub exactly : (r : Reading) → IsExactly (IsExpression r.left) (IsNoExpression r) (only_expression_at r)
 unfolding only_expression_at
-defined r = sentence_exactly reads_expression reads_spelled has_limits r
+exactly r = agrees_exactly agrees_expression scenarios_decided.0 r
 
-read_same : (r : Reading) → only_expression_at r ≡ given_whole expression_of_tree (read_whole expression (misfit_at r.stop) nothing_seen r.left)
+pub expression_kind : {X : Type 0} (r : Reading) (view : X → Expr) (result : Result X ScenarioFault) → MapsResult view result (only_expression_at r) → IfErr result IsOfSentence
 unfolding only_expression_at
-read_same r = whole_same agrees_expression r.stop r.left
-
-no_memory : (xs : List Symbol) (after : List Lexeme) → IsExpressionExcess Memory xs after → ⊥
-no_memory xs after excess = excess
-
-pub remembers : (r : Reading) → only_expression_at r ≡ Err Memory → ⊥
-remembers r h = stopped_remembers IsExpressionText IsWellFormedExpression IsExpressionExcess no_memory r ((defined r).err Memory h)
-
-pub said : (r : Reading) → IsExactly (IsSaidExpression r.left) (IsSaidExpressionFault r) (only_expression_at r)
-said r = exactly_so (only_expression_at r) (read_same r) (reads_said expression scenarios_decided.0 (misfit_at r.stop) expression_of_tree r.left (λ h. remembers r (read_same r ∙ h)))
-
-pub read_as_said : (r : Reading) → IsReadAs expression_of_tree (read_whole expression (misfit_at r.stop) nothing_seen r.left) (only_expression_at r)
-read_as_said r = reads_as expression_of_tree (read_whole expression (misfit_at r.stop) nothing_seen r.left) (only_expression_at r) (read_same r) (remembers r)
-
-pub same_expressions : SameExpressions
-same_expressions ls e = same_trees (said (reading 0 ls)) (defined (reading 0 ls)) e
-
-pub same_expression_faults : SameExpressionFaults
-same_expression_faults r fault = same_faults (said r) (defined r) fault
+expression_kind r view result h = kind_so agrees_expression expression_sentences r view result h

@@ -14,8 +14,7 @@ use Rattle.jc_parser.specs.declared.fault.ScenarioFault.{ScenarioFault}
 use Rattle.jc_parser.specs.ReaderState.{Reading, ReadOutcome, ◌>>=◌, begins_with, skip}
 use Rattle.jc_parser.specs.PartReaders.{items_at}
 use Rattle.jc_parser.specs.GrammarTrees.{items_of}
-use Rattle.jc_parser.proofs.PartsReadLemmas.{reading}
-use Rattle.jc_parser.proofs.GrammarAgreesLemmas.{fault_as, given, Agrees, agrees_map, agrees_then, agrees_or, agrees_mark, agrees_nothing, agrees_as, or_false}
+use Rattle.jc_parser.proofs.GrammarAgreesLemmas.{reading, fault_as, given, Agrees, agrees_map, agrees_then, agrees_or, agrees_mark, agrees_nothing, agrees_as, or_false}
 
 -- the guard refuses each lexeme, with this fault
 abbrev pub RefusesWith : Guard → (Reading → ScenarioFault) → Type 0

@@ -1,4 +1,4 @@
--- About `GrammarTrees`: the readers of scenarios read what the grammar's reader reads, and so the two say the same.
+-- About `Scenarios`: the readers of scenarios read what the grammar's reader reads, and so what is read is the scenario.
 use Rattle.std.proofs.Common.{◌≡◌, ℕ, zero, suc, ◌+◌, ◌-◌, ◌≤◌, ◌⊎◌, inl, inr, Bool, true, false, ◌||◌, List, [], ◌∷◌, ◌++◌, length, Ok, Err, refl, sym, ap, ◌∙◌, arith}
 use Rattle.std.specs.Prelude.{codes, nat_lt}
 use Rattle.std.specs.Str.{bytes_eq}
@@ -10,35 +10,29 @@ use Rattle.jc_rules.specs.declared.refusal.Refusal.TheVariants as refusals
 use Rattle.jc_rules.specs.declared.version.Version.{Version}
 use Rattle.jc_rules.specs.declared.version.Version.TheVariants.{One, Two}
 use Rattle.jc_syntax.specs.declared.token.TokenKind.TheVariants.{Name, BraceL, BraceR}
-use Rattle.jc_grammar.specs.Symbols.{Symbol, word, number, Lexeme, symbols}
+use Rattle.jc_grammar.specs.Symbols.{Symbol, word, number, Lexeme}
 use Rattle.jc_grammar.specs.SymbolTests.{has_kind, is_word, is_number_symbol, is_reserved}
 use Rattle.jc_grammar.specs.Classes.{is_in}
 use Rattle.jc_grammar.specs.Guards.{GuardState, TextFault, Misfit, nothing_seen, new_replica, no_event}
 use Rattle.jc_grammar.specs.Grammar.{Grammar, nothing, ◌then◌, ◌or◌, guarded, ParseTree, repeated}
 use Rattle.jc_grammar.specs.TreeReader.{TreeOutcome, ◌⟫◌, with_tree, pair_of, whole_of, read_tree, read_whole}
-use Rattle.jc_grammar.specs.ScenarioGrammar.{token, keyword, script, event, events, block, blocks, replica, scenario, misfit_at, header_misfit, scenario_misfit}
+use Rattle.jc_grammar.specs.ScenarioGrammar.{token, keyword, closed_script, event, events, block, blocks, replica, scenario, misfit_at, header_misfit, scenario_misfit}
 use Rattle.jc_grammar.specs.Limits.{either}
 use Rattle.jc_grammar.proofs.ScenarioGrammarLemmas.{scenarios_decided}
-use Rattle.jc_parser.specs.declared.fault.ScenarioFault.TheVariants.{TooManyEvents, Memory}
+use Rattle.jc_parser.specs.declared.fault.ScenarioFault.TheVariants.{TooManyEvents}
 use Rattle.jc_parser.specs.ReaderState.{Reading, ReadOutcome, ◌>>=◌, place, one, skip, named_at}
 use Rattle.jc_parser.specs.PartReaders.{version_at, front_at, result_of_read}
 use Rattle.jc_parser.specs.ScriptReader.{closed_script_at}
-use Rattle.jc_parser.specs.Scenarios.{Part, NamedTree, given_head, schedule_head, IsNamedTree}
-use Rattle.jc_parser.specs.ScenarioReader.{is_among, other_name_at, new_name_at, body_at, part_at, events_at, block_at, any_block_at, given_at, tree, blocks_at, with_replica_part, too_many_replicas_at, tail_at, rest_at, tree_at}
-use Rattle.jc_parser.specs.ScenarioFaults.{misfit_fault, IsNameFault, IsBlockExcess, IsEventExcess, IsGivenExcess, IsScheduleExcess, IsExcess, IsTreeFault}
-use Rattle.jc_parser.specs.GrammarTrees.{value_of, script_of_tree, events_of_tree, block_of_tree, any_block_of_tree, blocks_of_tree, replica_of_tree, tail_of_tree, scenario_of_tree}
-use Rattle.jc_parser.specs.GrammarClaims.{IsSaidScenario, IsSaidScenarioFault}
-use Rattle.jc_parser.specs.GrammarLaws.{IsReadAs, SameScenarios, SameScenarioFaults}
-use Rattle.jc_parser.proofs.PartsReadLemmas.{reading, at_place}
-use Rattle.jc_parser.proofs.ScenariosLemmas.{whole_ok, whole_err}
-use Rattle.jc_parser.proofs.ScenarioPlacesLemmas.{whole_placed}
-use Rattle.jc_parser.proofs.ScenarioLawsLemmas.{one_named, one_fault, tree_or_fault}
-use Rattle.jc_parser.proofs.GrammarAgreesLemmas.{fault_as, given, given_with, given_map, Agrees, agrees_map, then_same, agrees_then, agrees_or, agrees_mark, agrees_word, agrees_nothing, agrees_as, or_false}
-use Rattle.jc_parser.proofs.GrammarSaidLemmas.{IsExactly, exactly_by, exactly_so, reads_said, reads_as, given_whole, stuck_remembers, same_trees, same_faults}
+use Rattle.jc_parser.specs.ScenarioReader.{is_among, other_name_at, new_name_at, body_at, part_at, events_at, block_at, any_block_at, given_at, blocks_at, too_many_replicas_at, tail_at, rest_at, tree_at}
+use Rattle.jc_parser.specs.GrammarTrees.{value_of, closed_script_of_tree, events_of_tree, block_of_tree, any_block_of_tree, blocks_of_tree, replica_of_tree, tail_of_tree, scenario_of_tree}
+use Rattle.jc_parser.proofs.GrammarAgreesLemmas.{reading, at_place, fault_as, given, given_with, given_map, Agrees, agrees_map, then_same, agrees_then, agrees_or, agrees_mark, agrees_word, agrees_nothing, agrees_as, or_false}
 use Rattle.jc_parser.proofs.GrammarEventsLemmas.{agrees_event}
 use Rattle.jc_parser.proofs.GrammarListsLemmas.{RefusesWith, AlwaysBeginsBy, agrees_listed}
-use Rattle.jc_parser.proofs.GrammarScriptsLemmas.{agrees_closed_script, no_memory}
+use Rattle.jc_parser.proofs.GrammarScriptsLemmas.{agrees_closed_script}
 use Rattle.jc_parser.proofs.GrammarStatesLemmas.{ok_bind, same_ok, ok_with, read_keeps, script_keeps, AgreeTo, same_read}
+use Rattle.jc_parser.specs.Scenarios.{Part, NamedTree, tree, with_replica_part, IsNamedTree, IsTreeFault}
+use Rattle.jc_parser.proofs.GuardsLemmas.{IsTold, misfit_told}
+use Rattle.jc_parser.proofs.SentencesLemmas.{IsExactly, exactly_so, reads_exactly, given_whole}
 
 -- ---- blocks of events
 
@@ -147,17 +141,17 @@ name_kept misfit s (y ∷ ys) x own rest h = by_symbol y.place y.symbol h
 -- ---- a replica
 
 abbrev behind_name : Grammar
-behind_name = token BraceL then script then token BraceR
+behind_name = token BraceL then closed_script
 
-agrees_behind_name : Agrees behind_name (λ t. script_of_tree t.1.0) body_at
+agrees_behind_name : Agrees behind_name (λ t. closed_script_of_tree t.1) body_at
 unfolding body_at
-agrees_behind_name = agrees_then (λ t u. script_of_tree u.0) (λ _ r. closed_script_at r) (agrees_mark BraceL) (λ t. agrees_closed_script)
+agrees_behind_name = agrees_then (λ t u. closed_script_of_tree u) (λ _ r. closed_script_at r) (agrees_mark BraceL) (λ t. agrees_closed_script)
 
 part_same : (stop : ℕ) (s : GuardState) (names : List (List ℕ)) (ls : List Lexeme) → Remembers s names → nat_lt (length s.names) 64 ≡ true → part_at names (reading stop ls) ≡ given replica_of_tree stop (read_tree replica (misfit_at stop) s ls)
 unfolding part_at
 part_same stop s names ls r room =
     rw (name_same stop s names ls r room)
-    (then_same behind_name (λ (x : Lexeme) (u : ParseTree behind_name). record { name = value_of x; script = script_of_tree u.1.0 }) (λ n q. body_at q >>= λ commands. Ok (record { name = n; script = commands.0 }, commands.1)) stop (read_tree new_name (misfit_at stop) s ls)
+    (then_same behind_name (λ (x : Lexeme) (u : ParseTree behind_name). record { name = value_of x; script = closed_script_of_tree u.1 }) (λ n q. body_at q >>= λ commands. Ok (record { name = n; script = commands.0 }, commands.1)) stop (read_tree new_name (misfit_at stop) s ls)
     (λ x own rest read. (agrees_map (λ (commands : List Cmd). record { name = value_of x; script = commands }) agrees_behind_name).same stop own rest))
 
 part_kept : (misfit : Misfit) (s : GuardState) (names : List (List ℕ)) (ls : List Lexeme) (t : ParseTree replica) (own : GuardState) (rest : List Lexeme) → Remembers s names → read_tree replica misfit s ls ≡ Ok (t, own, rest) → Remembers own (names ++ (replica_of_tree t).name ∷ [])
@@ -335,61 +329,15 @@ same_header stop (a ∷ b ∷ others) =
       | inr other ↦ rw (other, first_misfit stop a (b ∷ others)) refl
     ]
 
--- ---- no scenario has the fault that memory ran out
+-- ---- what is read
 
-misfit_remembers : (xs : List Symbol) (stop : ℕ) (after : List Lexeme) → Memory ≡ misfit_fault xs stop after → ⊥
-misfit_remembers [] stop after e = absurd cc
-misfit_remembers (a ∷ []) stop after e = absurd cc
-misfit_remembers (a ∷ b ∷ []) stop after e = absurd cc
-misfit_remembers (a ∷ b ∷ c ∷ xs) stop after e = stuck_remembers stop after e
+header_told : (n stop : ℕ) (after : List Lexeme) → IsTold (fault_as (header_misfit n stop after))
+header_told zero stop after e = cc
+header_told (suc zero) stop after e = cc
+header_told (suc (suc zero)) stop after e = cc
+header_told (suc (suc (suc n))) stop after e = misfit_told stop after e
 
-name_remembers : (ps : List Part) (name : List ℕ) (p : ℕ) → IsNameFault ps name p Memory → ⊥
-name_remembers ps name p (inl (taken, e)) = absurd cc
-name_remembers ps name p (inr (free, inl (known, e))) = absurd cc
-name_remembers ps name p (inr (free, inr (new, full, e))) = absurd cc
-
-block_remembers : (head : List Symbol) (v : Version) (xs : List Symbol) (after : List Lexeme) → IsBlockExcess head v Memory xs after → ⊥
-block_remembers head v xs after o = by_event o.excess
-  where
-    by_event : IsEventExcess v (length o.calls) Memory o.event after → ⊥
-    by_event (inl (full, none, next, rest, parts, name, is, e)) = absurd cc
-    by_event (inr (room, excess)) = excess
-
-excess_remembers : (xs : List Symbol) (after : List Lexeme) → IsExcess Memory xs after → ⊥
-excess_remembers xs after (inl (next, rest, parts, o)) = name_remembers o.parts o.name next.place o.which
-excess_remembers xs after (inr (inl o)) = no_memory o.script after o.excess
-excess_remembers xs after (inr (inr o)) = by_block o.version o.excess
-  where
-    by_block : (v : Version) → IsGivenExcess v Memory o.blocks after ⊎ IsScheduleExcess v Memory o.blocks after → ⊥
-    by_block One (inl given) = given
-    by_block Two (inl given) = block_remembers given_head Two o.blocks after given
-    by_block v (inr behind) = block_remembers schedule_head v behind.schedule after behind.excess
-
-tree_remembers : (r : Reading) → IsTreeFault r Memory → ⊥
-tree_remembers r f =
-    elim f.stops [
-      | inl m ↦ misfit_remembers (symbols f.before) r.stop f.after m.is
-      | inr o ↦ excess_remembers (symbols f.before) f.after o
-    ]
-
--- ---- the same scenarios, the same faults
-
-defined : (r : Reading) → IsExactly (IsNamedTree r) (IsTreeFault r) (tree_at r)
-defined r =
-    exactly_by (tree_at r) (λ t h. record { spelled = (whole_ok r t h).0; within = (whole_ok r t h).1; placed = whole_placed r t h }) (whole_err r)
-    (one_named r) (tree_or_fault r) (one_fault r)
-
-pub remembers : (r : Reading) → tree_at r ≡ Err Memory → ⊥
-remembers r h = tree_remembers r (whole_err r Memory h)
-
-pub said : (r : Reading) → IsExactly (IsSaidScenario r.left) (IsSaidScenarioFault r) (tree_at r)
-said r = exactly_so (tree_at r) (same_header r.stop r.left) (reads_said scenario scenarios_decided.3 (scenario_misfit r.stop r.left) scenario_of_tree r.left (λ h. remembers r (same_header r.stop r.left ∙ h)))
-
-pub read_as_said : (r : Reading) → IsReadAs scenario_of_tree (read_whole scenario (scenario_misfit r.stop r.left) nothing_seen r.left) (tree_at r)
-read_as_said r = reads_as scenario_of_tree (read_whole scenario (scenario_misfit r.stop r.left) nothing_seen r.left) (tree_at r) (same_header r.stop r.left) (remembers r)
-
-pub same_scenarios : SameScenarios
-same_scenarios r t = same_trees (said r) (defined r) t
-
-pub same_scenario_faults : SameScenarioFaults
-same_scenario_faults r fault = same_faults (said r) (defined r) fault
+pub exactly : (r : Reading) → IsExactly (IsNamedTree r) (IsTreeFault r) (tree_at r)
+exactly r =
+    exactly_so (tree_at r) (same_header r.stop r.left)
+    (reads_exactly scenario scenarios_decided.3 (scenario_misfit r.stop r.left) (λ after. header_told (length r.left - length after) r.stop after) scenario_of_tree r.left)

@@ -1,40 +1,35 @@
--- About `GrammarTrees`: the readers of scripts read what the grammar's reader reads, and so the two say the same.
+-- About `Scripts`: the readers of scripts read what the grammar's reader reads, and so what is read is the script.
 use Rattle.std.proofs.Common.{◌≡◌, ℕ, zero, suc, inl, inr, Bool, true, false, ◌||◌, cond, List, [], ◌∷◌, Result, Ok, Err, refl, subst, ◌∙◌}
-use Rattle.std.specs.Prelude.{codes, not}
+use Rattle.std.specs.Prelude.{codes, not, IfErr}
 use Rattle.std.specs.Str.{bytes_eq}
 use Rattle.std.proofs.lemmas.Bool.{cases_Bool}
 use Rattle.std.proofs.lemmas.Slice.Eq.{bytes_eq-Decides}
 use Rattle.jc_rules.specs.Syntax.{Expr, Cmd, LetIn, SetTo, InsertAfter, DeleteAt, Yield}
 use Rattle.jc_rules.specs.declared.limits.TheConstants.{MAX_SELECTORS, MAX_COMMANDS}
 use Rattle.jc_syntax.specs.declared.token.TokenKind.TheVariants.{Name, Dot, ParenL, ParenR, BraceR, BracketR, Assign, Equals}
-use Rattle.jc_grammar.specs.Symbols.{Symbol, word, open_brace, open_bracket, Lexeme, symbols}
+use Rattle.jc_grammar.specs.Symbols.{Symbol, word, open_brace, open_bracket, Lexeme}
 use Rattle.jc_grammar.specs.SymbolTests.{has_kind, is_word, is_reserved, is_misused}
-use Rattle.jc_grammar.specs.Guards.{GuardState, nothing_seen, free_binding, no_selector, no_command}
+use Rattle.jc_grammar.specs.Guards.{GuardState, free_binding, no_selector, no_command}
 use Rattle.jc_grammar.specs.Grammar.{Grammar, ◌then◌, ◌or◌, guarded, ParseTree, chained}
-use Rattle.jc_grammar.specs.TreeReader.{◌⟫◌, with_tree, pair_of, read_tree, read_whole}
-use Rattle.jc_grammar.specs.ScenarioGrammar.{token, keyword, in_parens, selector, root_but, selector_dot, literal, assignment, ending, change, binding, command, script, misfit_at}
+use Rattle.jc_grammar.specs.TreeReader.{◌⟫◌, with_tree, pair_of, read_tree}
+use Rattle.jc_grammar.specs.ScenarioGrammar.{token, keyword, in_parens, selector, root_but, selector_dot, literal, assignment, ending, change, binding, command, script, closed_script, misfit_at}
 use Rattle.jc_grammar.specs.Limits.{either}
-use Rattle.jc_grammar.proofs.ScenarioGrammarLemmas.{scenarios_decided}
+use Rattle.jc_grammar.proofs.ScenarioGrammarLemmas.{scenarios_decided, closed_decided}
 use Rattle.jc_parser.specs.declared.fault.ScenarioFault.{ScenarioFault}
-use Rattle.jc_parser.specs.declared.fault.ScenarioFault.TheVariants.{TooLongExpression, Memory}
-use Rattle.jc_parser.specs.ReaderState.{Reading, ReadOutcome, ◌>>=◌, stuck, begins_with, one, skip, named_at}
+use Rattle.jc_parser.specs.declared.fault.ScenarioFault.TheVariants.{TooLongExpression}
+use Rattle.jc_parser.specs.ReaderState.{Reading, ReadOutcome, MapsResult, ◌>>=◌, stuck, begins_with, one, skip, named_at}
 use Rattle.jc_parser.specs.PartReaders.{number_at, string_at, read_value_at, read_name_at}
-use Rattle.jc_parser.specs.Expressions.{is_selector, extended}
-use Rattle.jc_parser.specs.ExpressionReader.{step_at, Chain, chain_at, doc_at, variable_at, root_at, expression_at}
+use Rattle.jc_parser.specs.ExpressionReader.{is_selector, extended, step_at, Chain, chain_at, doc_at, variable_at, root_at, expression_at}
 use Rattle.jc_parser.specs.ScriptReader.{any_value_at, binding_at, assignment_at, insertion_at, deletion_at, finish_at, update_at, yield_at, command_at, too_many_commands_at, script_at, only_script_at, closed_script_at}
-use Rattle.jc_parser.specs.Scripts.{IsScriptSpelled, IsScriptWellFormed, IsScriptExcess}
-use Rattle.jc_parser.specs.Sentences.{IsStopped}
-use Rattle.jc_parser.specs.GrammarTrees.{value_of, inside, selected, root_of_tree, expression_of_tree, value_of_tree, ending_of_tree, assignment_of_tree, change_of_tree, command_of_tree, script_of_tree}
-use Rattle.jc_parser.specs.GrammarClaims.{IsSaidScript, IsSaidScriptFault}
-use Rattle.jc_parser.specs.GrammarLaws.{IsReadAs, SameScripts, SameScriptFaults}
-use Rattle.jc_parser.proofs.PartsReadLemmas.{reading, at_place}
-use Rattle.jc_parser.proofs.ScriptsLemmas.{reads_script}
-use Rattle.jc_parser.proofs.ScriptsReadLemmas.{reads_spelled}
-use Rattle.jc_parser.proofs.ScriptLimitsLemmas.{has_limits}
-use Rattle.jc_parser.proofs.GrammarAgreesLemmas.{given, given_with, Agrees, agrees_map, agrees_then, agrees_or, agrees_mark, agrees_word, agrees_as, agrees_so, or_false}
-use Rattle.jc_parser.proofs.GrammarSaidLemmas.{IsExactly, exactly_so, reads_said, reads_as, whole_same, given_whole, stopped_remembers, same_trees, same_faults, sentence_exactly}
+use Rattle.jc_parser.specs.GrammarTrees.{value_of, inside, selected, root_of_tree, expression_of_tree, value_of_tree, ending_of_tree, assignment_of_tree, change_of_tree, binding_of_tree, update_of_tree, command_of_tree, script_of_tree, closed_script_of_tree}
+use Rattle.jc_parser.proofs.GrammarAgreesLemmas.{reading, at_place, given, given_with, Agrees, agrees_map, agrees_then, agrees_or, agrees_mark, agrees_word, agrees_as, agrees_so, or_false}
 use Rattle.jc_parser.proofs.GrammarExpressionsLemmas.{selector_of_tree, selected_is, agrees_selector, selector_first, agrees_dot, agrees_expression}
 use Rattle.jc_parser.proofs.GrammarListsLemmas.{RefusesWith, AlwaysBeginsBy, agrees_listed}
+use Rattle.jc_parser.specs.Faults.{IsOfSentence}
+use Rattle.jc_parser.specs.Scripts.{IsScript, IsNoScript}
+use Rattle.jc_parser.proofs.GuardsLemmas.{script_sentences, closed_sentences}
+use Rattle.jc_parser.proofs.SentencesLemmas.{IsExactly, agrees_exactly, kind_so}
+use Rattle.jc_parser.proofs.PrefixLemmas.{IsAheadReader}
 
 -- ---- values
 
@@ -218,7 +213,7 @@ agrees_lead = record { same = by_first }
 abbrev change_at : Reading → ReadOutcome Cmd
 change_at r = lead_at r >>= λ e. chain_at MAX_SELECTORS e.0 e.1 >>= finished
 
-agrees_change : Agrees change (λ t. change_of_tree MAX_SELECTORS (root_of_tree keywords t.0) t.1) change_at
+agrees_change : Agrees change update_of_tree change_at
 agrees_change =
     agrees_then (λ t u. change_of_tree MAX_SELECTORS (root_of_tree keywords t) u) (λ e r. chain_at MAX_SELECTORS e r >>= finished) agrees_lead
     (λ t. agrees_chained MAX_SELECTORS (root_of_tree keywords t))
@@ -240,7 +235,7 @@ agrees_binding_name = record { same = by_first }
     by_first stop s [] = refl
     by_first stop s (x ∷ xs) = binding_name_first stop x.place s x.symbol xs
 
-agrees_binding : Agrees binding (λ t. LetIn (value_of t.1.0) (expression_of_tree t.1.1.1)) binding_at
+agrees_binding : Agrees binding binding_of_tree binding_at
 unfolding binding_at
 agrees_binding =
     agrees_then (λ t u. LetIn (value_of u.0) (expression_of_tree u.1.1)) (λ _ r. read_name_at r >>= λ n. skip (has_kind Equals) n.1 >>= λ b. expression_at b.1 >>= λ e. Ok (LetIn n.0 e.0, e.1)) (agrees_word (codes "let"))
@@ -265,7 +260,7 @@ command_told r =
     ]
 
 same_command : (t : ParseTree command)
-    → either (λ x. Yield) (either (λ (x : ParseTree binding). LetIn (value_of x.1.0) (expression_of_tree x.1.1.1)) (λ (x : ParseTree change). change_of_tree MAX_SELECTORS (root_of_tree keywords x.0) x.1)) t
+    → either (λ x. Yield) (either binding_of_tree update_of_tree) t
     ≡ command_of_tree t
 same_command (inl t) = refl
 same_command (inr (inl t)) = refl
@@ -301,36 +296,20 @@ pub agrees_script : Agrees script script_of_tree script_at
 unfolding script_at
 agrees_script = agrees_listed MAX_COMMANDS no_command (has_kind Name) too_many_commands_at command_first crowd agrees_command
 
-pub agrees_closed_script : Agrees (script then token BraceR) (λ t. script_of_tree t.0) closed_script_at
+pub agrees_closed_script : Agrees closed_script closed_script_of_tree closed_script_at
 unfolding closed_script_at
 agrees_closed_script = agrees_then (λ t u. script_of_tree t) (λ s r. skip (has_kind BraceR) r >>= λ a. Ok (s, a.1)) agrees_script (λ t. agrees_map (λ u. script_of_tree t) (agrees_mark BraceR))
 
--- ---- the same scripts, the same faults
+-- ---- what is read
 
-defined : (r : Reading) → IsExactly (λ commands. IsScriptSpelled commands (symbols r.left) × IsScriptWellFormed commands) (IsStopped IsScriptSpelled IsScriptWellFormed IsScriptExcess r) (only_script_at r)
+pub exactly : (r : Reading) → IsExactly (IsScript r.left) (IsNoScript r) (only_script_at r)
 unfolding only_script_at
-defined r = sentence_exactly reads_script reads_spelled has_limits r
+exactly r = agrees_exactly agrees_script scenarios_decided.1 r
 
-read_same : (r : Reading) → only_script_at r ≡ given_whole script_of_tree (read_whole script (misfit_at r.stop) nothing_seen r.left)
+pub script_kind : {X : Type 0} (r : Reading) (view : X → List Cmd) (result : Result X ScenarioFault) → MapsResult view result (only_script_at r) → IfErr result IsOfSentence
 unfolding only_script_at
-read_same r = whole_same agrees_script r.stop r.left
+script_kind r view result h = kind_so agrees_script script_sentences r view result h
 
-pub no_memory : (xs : List Symbol) (after : List Lexeme) → IsScriptExcess Memory xs after → ⊥
-no_memory xs after (inl next) = next
-no_memory xs after (inr (inl o)) = o.excess
-no_memory xs after (inr (inr o)) = o.excess
-
-pub remembers : (r : Reading) → only_script_at r ≡ Err Memory → ⊥
-remembers r h = stopped_remembers IsScriptSpelled IsScriptWellFormed IsScriptExcess no_memory r ((defined r).err Memory h)
-
-pub said : (r : Reading) → IsExactly (IsSaidScript r.left) (IsSaidScriptFault r) (only_script_at r)
-said r = exactly_so (only_script_at r) (read_same r) (reads_said script scenarios_decided.1 (misfit_at r.stop) script_of_tree r.left (λ h. remembers r (read_same r ∙ h)))
-
-pub read_as_said : (r : Reading) → IsReadAs script_of_tree (read_whole script (misfit_at r.stop) nothing_seen r.left) (only_script_at r)
-read_as_said r = reads_as script_of_tree (read_whole script (misfit_at r.stop) nothing_seen r.left) (only_script_at r) (read_same r) (remembers r)
-
-pub same_scripts : SameScripts
-same_scripts ls commands = same_trees (said (reading 0 ls)) (defined (reading 0 ls)) commands
-
-pub same_script_faults : SameScriptFaults
-same_script_faults r fault = same_faults (said r) (defined r) fault
+-- a script and its closing brace begin the lexemes
+pub ahead : IsAheadReader closed_script closed_script_of_tree closed_script_at
+ahead = record { agrees = agrees_closed_script; decided = rw closed_decided refl; sentences = closed_sentences }

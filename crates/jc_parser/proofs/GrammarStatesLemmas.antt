@@ -3,30 +3,25 @@
 use Rattle.std.proofs.Common.{◌≡◌, ℕ, zero, suc, ◌≤◌, inl, inr, Bool, true, false, ◌&&◌, cond, List, [], ◌∷◌, length, Result, Ok, Err, refl, sym, ap, ◌∙◌, arith}
 use Rattle.std.specs.Prelude.{codes, nat_lt}
 use Rattle.std.proofs.lemmas.Bool.{cases_Bool}
-use Rattle.jc_rules.specs.declared.limits.TheConstants.{MAX_SELECTORS, MAX_COMMANDS}
-use Rattle.jc_syntax.specs.declared.token.TokenKind.TheVariants.{Semi}
 use Rattle.jc_grammar.specs.Symbols.{Lexeme}
 use Rattle.jc_grammar.specs.SymbolTests.{value_of_symbol, numeral_value, is_word, is_reserved}
 use Rattle.jc_grammar.specs.Classes.{Class, is_of}
 use Rattle.jc_grammar.specs.Guards.{TextFault, Misfit, GuardState, Verdict, refuses, passes, Guard, small_index, free_binding, free_root, dot_seen, new_replica, no_selector, no_command, no_event, verdict_of}
-use Rattle.jc_grammar.specs.Grammar.{Grammar, symbol, nothing, ◌then◌, ◌or◌, guarded, listed, chained, repeated, ParseTree, NoticedFault, verdict_at}
+use Rattle.jc_grammar.specs.Grammar.{Grammar, symbol, nothing, ◌then◌, ◌or◌, guarded, ParseTree, NoticedFault, verdict_at}
 use Rattle.jc_grammar.specs.LookAhead.{begins_with_any, first_classes}
 use Rattle.jc_grammar.specs.TreeReader.{TreeOutcome, ◌⟫◌, with_tree, pair_of, read_by, read_tree}
-use Rattle.jc_grammar.specs.ScenarioGrammar.{token, selector, selector_dot, assignment, ending, command, script}
+use Rattle.jc_grammar.specs.ScenarioGrammar.{script}
 use Rattle.jc_grammar.proofs.LookAheadLemmas.{both_true}
+use Rattle.jc_parser.proofs.GuardsLemmas.{all_guards, script_guards}
 
 -- ---- guards that remember no names
 
-abbrev names_nothing : Guard → Bool
+abbrev pub names_nothing : Guard → Bool
 names_nothing (new_replica most) = false
 names_nothing c = true
 
 abbrev pub keeps_names : Grammar → Bool
-keeps_names (symbol c) = true
-keeps_names nothing = true
-keeps_names (g then h) = keeps_names g && keeps_names h
-keeps_names (g or h) = keeps_names g && keeps_names h
-keeps_names (guarded c g) = names_nothing c && keeps_names g
+keeps_names g = all_guards names_nothing g
 
 same_names : (s own : GuardState) → passes s ≡ passes own → own.names ≡ s.names
 same_names s own h = let same : s ≡ own = cc in ap (λ (q : GuardState). q.names) (sym same)
@@ -96,7 +91,7 @@ taken c x s xs t own rest h =
     let short : length rest ≤ length xs = at_most xs rest (ap (λ (q : Lexeme × GuardState × List Lexeme). q.2) all) in
     (omega (arith, short), λ free. sym (ap (λ (q : Lexeme × GuardState × List Lexeme). q.1.names) all))
 
-verdict_at_keeps : (c : Guard) (s : GuardState) (ls : List Lexeme) (next : GuardState) → verdict_at c s ls ≡ passes next → names_nothing c ≡ true → next.names ≡ s.names
+pub verdict_at_keeps : (c : Guard) (s : GuardState) (ls : List Lexeme) (next : GuardState) → verdict_at c s ls ≡ passes next → names_nothing c ≡ true → next.names ≡ s.names
 verdict_at_keeps c s [] next check free = same_names s next check
 verdict_at_keeps c s (x ∷ xs) next check free = verdict_keeps c s x next free check
 
@@ -143,28 +138,8 @@ read_keeps (guarded c g) misfit s ls t own rest e =
           (short, λ free. names (both_true (names_nothing c) (keeps_names g) free).1)
     ]
 
--- ---- lists
-
-listed_keeps : (n : ℕ) (c : Guard) (x y : Grammar) → names_nothing c ≡ true → keeps_names x ≡ true → keeps_names y ≡ true → keeps_names (listed n c x y) ≡ true
-unfolding listed
-listed_keeps zero c x y free one two = rw (free, one) refl
-listed_keeps (suc n) c x y free one two = rw (one, two, listed_keeps n c x y free one two) refl
-
-chained_keeps : (n : ℕ) (c : Guard) (x y e f : Grammar) → names_nothing c ≡ true → keeps_names x ≡ true → keeps_names y ≡ true → keeps_names e ≡ true → keeps_names f ≡ true → keeps_names (chained n c x y e f) ≡ true
-unfolding chained
-chained_keeps zero c x y e f free one two three four = rw (free, one, two, three, four) refl
-chained_keeps (suc n) c x y e f free one two three four = rw (one, two, three, four, chained_keeps n c x y e f free one two three four) refl
-
-repeated_keeps : (n : ℕ) (c : Guard) (x y e : Grammar) → names_nothing c ≡ true → keeps_names x ≡ true → keeps_names y ≡ true → keeps_names e ≡ true → keeps_names (repeated n c x y e) ≡ true
-unfolding repeated
-repeated_keeps zero c x y e free one two three = rw (free, one, two, three) refl
-repeated_keeps (suc n) c x y e free one two three = rw (one, two, three, repeated_keeps n c x y e free one two three) refl
-
-command_keeps : keeps_names command ≡ true
-command_keeps = rw (chained_keeps MAX_SELECTORS no_selector selector_dot selector assignment ending refl refl refl refl refl, repeated_keeps MAX_SELECTORS no_selector selector_dot selector nothing refl refl refl refl) refl
-
 pub script_keeps : keeps_names script ≡ true
-script_keeps = listed_keeps MAX_COMMANDS no_command command (token Semi) refl command_keeps refl
+script_keeps = script_guards names_nothing refl refl refl refl refl refl
 
 -- ---- misfits
 

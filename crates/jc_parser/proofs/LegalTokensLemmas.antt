@@ -14,7 +14,7 @@ use Rattle.jc_syntax.specs.declared.token.TokenKind.TheVariants.{Name, Number, S
 use Rattle.jc_syntax.specs.Bytes.{is_name_start, is_name_byte}
 use Rattle.jc_syntax.specs.Lexemes.{kind_of_byte, after_name, IsTokenOf, IsStringToken, token_content}
 use Rattle.jc_parser.specs.LegalSymbols.{IsName, IsNumeric, IsContent}
-use Rattle.jc_parser.specs.Symbols.{Symbol, word, number, string, symbol_of, lexemes, symbols}
+use Rattle.jc_grammar.specs.Symbols.{Symbol, word, number, string, symbol_of, lexemes, symbols}
 
 -- what the lexer's law says of strings
 abbrev pub LegalStrings : Type 0

@@ -1,57 +1,20 @@
-mod EventLawsLemmas
-mod EventPlacesLemmas
-mod EventReaderLemmas
-mod EventsReadLemmas
-mod EventsLemmas
-mod ClosedScriptsLawsLemmas
-mod ClosedScriptsLemmas
-mod FaultsDecideLemmas
-mod ExpressionPartsLemmas
 mod FirstTokensLemmas
-mod PrefixLemmas
-mod ItemsLemmas
-mod ExpressionReaderLemmas
-mod ExpressionLimitsLemmas
-pub mod ExpressionLoopsLemmas
-mod ExpressionReadersLemmas
-mod ExpressionsReadLemmas
-mod TestAnswersLemmas
-mod ExpressionsLemmas
-mod LegalTokensLemmas
-mod LegalTreesLemmas
-mod LoopsLemmas
-mod NamesLemmas
-mod ReaderStateLemmas
-mod LimitsRefusedLemmas
-mod ScriptLimitsLemmas
-pub mod ScriptReaderLemmas
-mod ScriptsReadLemmas
-mod ScriptsLemmas
-mod SentenceClausesLemmas
-mod SentenceLawsLemmas
-mod SentencesLemmas
-pub mod PartsReadLemmas
-mod ListsReadLemmas
-mod StopsOnceLemmas
 mod SymbolTestsLemmas
-mod HeadersLemmas
-mod ScenarioReaderLemmas
-mod ScenarioTailsLemmas
-mod ScenariosReadLemmas
-mod ScenarioNamesLemmas
-mod ScenarioExcessLemmas
-mod ScenarioPrefixLemmas
-mod ScenariosLemmas
-mod ScenarioPlacesLemmas
+mod LoopsLemmas
+pub mod ExpressionLoopsLemmas
 mod ScenarioLoopsLemmas
-mod ScenarioAgainLemmas
-mod ScenarioLimitsLemmas
-mod ScenarioLawsLemmas
 mod GrammarAgreesLemmas
-mod GrammarSaidLemmas
+mod GuardsLemmas
+mod SentencesLemmas
+mod TextLawsLemmas
+mod PrefixLemmas
+mod GrammarListsLemmas
 mod GrammarEventsLemmas
 mod GrammarExpressionsLemmas
-mod GrammarListsLemmas
 mod GrammarScriptsLemmas
-mod GrammarStatesLemmas
+pub mod GrammarStatesLemmas
 mod GrammarScenariosLemmas
+mod AmongTokensLemmas
+mod LegalTokensLemmas
+mod LegalTreesLemmas
+pub mod LegalScenariosLemmas

@@ -3,7 +3,7 @@ use Rattle.std.proofs.Common.{◌≡◌, ◌≢◌, ℕ, zero, suc, ◌-◌, Boo
 use Rattle.std.proofs.lemmas.List.{append-nil}
 use Rattle.jc_syntax.specs.declared.token.TokenKind.TheVariants.{Semi}
 use Rattle.jc_parser.specs.declared.fault.ScenarioFault.{ScenarioFault}
-use Rattle.jc_parser.specs.Symbols.{Symbol}
+use Rattle.jc_grammar.specs.Symbols.{Symbol}
 use Rattle.jc_parser.specs.ReaderState.{Reading, ReadOutcome, ◌>>=◌, begins, has_kind, skip}
 use Rattle.jc_parser.specs.PartReaders.{items_at}
 

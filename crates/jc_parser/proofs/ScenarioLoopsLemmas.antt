@@ -1,5 +1,6 @@
 -- For `scenarios`: the loop over replicas, and the names that it compares.
-use Rattle.std.proofs.Common.{◌≡◌, ◌≢◌, ℕ, zero, suc, ◌-◌, true, false, ◌||◌, List, [], ◌∷◌, ◌++◌, map, Result, Ok, Err, refl, sym, ap, ◌∙◌, append_assoc, sub-one, arith}
+use Rattle.std.proofs.Common.{◌≡◌, ◌≢◌, ℕ, zero, suc, ◌-◌, Bool, true, false, ◌||◌, List, [], ◌∷◌, ◌++◌, map, Result, Ok, Err, refl, sym, ap, ◌∙◌, append_assoc, sub-one, arith}
+use Rattle.std.specs.Prelude.{codes}
 use Rattle.std.specs.Str.{bytes_eq}
 use Rattle.std.specs.List.{list_any}
 use Rattle.std.proofs.lemmas.List.{append-nil}
@@ -10,15 +11,13 @@ use Rattle.jc_syntax.specs.declared.tree.NamedEvent.{NamedEvent}
 use Rattle.jc_parser.specs.declared.fault.ScenarioFault.{ScenarioFault}
 use Rattle.jc_parser.specs.declared.fault.ScenarioFault.TheVariants.{TooManyReplicas, Memory}
 use Rattle.jc_parser.specs.declared.scenarios.NamedReplica.{NamedReplica}
-use Rattle.jc_parser.specs.Symbols.{Symbol, word, Lexeme}
-use Rattle.jc_parser.specs.ReaderState.{Reading, ReadOutcome, MapsResult, ◌>>=◌, begins, place_at, one, skip, named_at}
-use Rattle.jc_parser.specs.ReservedWords.{is_reserved}
-use Rattle.jc_parser.specs.Scenarios.{Part, NamedTree}
-use Rattle.jc_parser.specs.ScenarioReader.{is_among, other_name_at, new_name_at, part_at, tree, blocks_at, with_replica_part, too_many_replicas_at, tail_at, rest_at}
+use Rattle.jc_grammar.specs.Symbols.{Symbol, word, Lexeme}
+use Rattle.jc_parser.specs.ReaderState.{Reading, ReadOutcome, MapsResult, ◌>>=◌, begins, is_word, place_at, one, skip, named_at}
+use Rattle.jc_grammar.specs.SymbolTests.{is_reserved}
+use Rattle.jc_parser.specs.NamedTrees.{Part, NamedTree, tree, with_replica_part}
+use Rattle.jc_parser.specs.ScenarioReader.{is_among, other_name_at, new_name_at, part_at, blocks_at, too_many_replicas_at, tail_at, rest_at}
 use Rattle.jc_parser.specs.ScenarioViews.{part_view, names_of}
-use Rattle.jc_parser.proofs.PartsReadLemmas.{reading}
-use Rattle.jc_parser.proofs.ScenarioTailsLemmas.{is_replica}
-use Rattle.jc_parser.proofs.ScenarioPrefixLemmas.{then_parts}
+use Rattle.jc_parser.proofs.GrammarAgreesLemmas.{reading}
 
 -- ---- names
 
@@ -74,6 +73,13 @@ crowd_err names r e h = by_left r.stop r.left h
     by_left stop (y ∷ ys) h = crowd_taken names stop y.place y.symbol ys e h
 
 -- ---- replicas
+
+abbrev pub is_replica : Symbol → Bool
+is_replica s = is_word (codes "replica") s
+
+-- these replicas before others
+abbrev pub then_parts : List Part → ReadOutcome NamedTree → ReadOutcome NamedTree
+then_parts ps r = r >>= λ t. Ok (tree t.0.version (ps ++ t.0.parts) t.0.given t.0.events, t.1)
 
 pub first_fails : (v : Version) (m n : ℕ) (r : Reading) (e : ScenarioFault) → part_at [] r ≡ Err e → rest_at v m n r ≡ Err e
 unfolding rest_at

@@ -1,130 +1,244 @@
--- About `Sentences`: a sentence that is all of the lexemes, from its reader to the grammar and the faults.
-use Rattle.std.proofs.Common.{◌≡◌, ℕ, ◌⊎◌, inl, inr, Bool, true, false, List, [], ◌∷◌, ◌++◌, Ok, Err, refl, sym, ap, subst, ◌∙◌, append_assoc}
-use Rattle.std.proofs.lemmas.List.{append-nil}
+-- About `Sentences`: what a grammar says of lexemes is what its reader reads, and so is what a reader reads that agrees
+-- with it. So lexemes are one sentence at most or have one fault.
+use Rattle.std.proofs.Common.{◌≡◌, ◌≢◌, ℕ, ◌⊎◌, inl, inr, true, List, [], ◌∷◌, Some, None, Result, Ok, Err, refl, sym, ap, subst, ◌∙◌}
+use Rattle.std.specs.Prelude.{IfOk, IfErr}
+use Rattle.jc_rules.specs.declared.refusal.Refusal.{Refusal}
+use Rattle.jc_rules.specs.declared.refusal.Refusal.TheVariants as refusals
+use Rattle.jc_syntax.specs.declared.fault.LexFault.{LexFault}
+use Rattle.jc_syntax.specs.declared.fault.LexFault.TheVariants as lexical
+use Rattle.jc_grammar.specs.Symbols.{Lexeme}
+use Rattle.jc_grammar.specs.Guards.{TextFault, Misfit, nothing_seen}
+use Rattle.jc_grammar.specs.Grammar.{Grammar, ParseTree, NoticedFault}
+use Rattle.jc_grammar.specs.LookAhead.{is_decided}
+use Rattle.jc_grammar.specs.TreeReader.{TreeOutcome, ◌⟫◌, whole_of, read_tree, read_whole}
+use Rattle.jc_grammar.specs.Faults.{Language, IsTreeText, IsFaultIn}
+use Rattle.jc_grammar.specs.ScenarioGrammar.{misfit_at}
+use Rattle.jc_grammar.proofs.FaultsDecideLemmas.{TextFunction, Decides}
+use Rattle.jc_grammar.proofs.TreeReaderLemmas.{decides_all}
+use Rattle.jc_grammar.proofs.FaultsLemmas.{refused_so, fault_refused}
+use Rattle.jc_parser.specs.declared.parse_fault.ParseFault.{ParseFault}
+use Rattle.jc_parser.specs.declared.parse_fault.ParseFault.TheVariants as sentence
 use Rattle.jc_parser.specs.declared.fault.ScenarioFault.{ScenarioFault}
-use Rattle.jc_parser.specs.declared.fault.ScenarioFault.TheVariants.{Unexpected, EndOfText}
-use Rattle.jc_parser.specs.Symbols.{Symbol, dot, Lexeme, symbols}
-use Rattle.jc_parser.specs.ReaderState.{Reading, ReadOutcome, ◌>>=◌, stuck_at, stuck, no_more, is_at_end}
+use Rattle.jc_parser.specs.declared.fault.ScenarioFault.TheVariants.{BadByte, OpenString, BadEscape, LoneSurrogate, BadNumber, TextTooLong, Unexpected, EndOfText, IndexTooLarge, ReservedName, TooManyCommands, TooLongExpression, NotUtf8, NoHeader, SameName, NoReplica, TooManyReplicas, UnknownReplica, TooManyEvents, Memory}
+use Rattle.jc_parser.specs.Faults.{from_lexer, from_sentence, IsOfSentence}
+use Rattle.jc_parser.specs.ReaderState.{Reading, ReadOutcome, ◌>>=◌, MapsResult}
 use Rattle.jc_parser.specs.PartReaders.{result_of_read}
-use Rattle.jc_parser.specs.Sentences.{Excess, IsBegun, FitsNothing, IsStopped}
-use Rattle.jc_parser.proofs.ReaderStateLemmas.{bind_ok, bind_err, chosen_ok, chosen_err, SameHead, same_stuck, symbols-append, Language, Begun, IsKept, Reads}
-use Rattle.jc_parser.proofs.ExpressionPartsLemmas.{Within}
-use Rattle.jc_parser.proofs.PartsReadLemmas.{reading, lexed, symbols-lexed, IsLimitFault, IsPast, Answers, past_then, not_past}
+use Rattle.jc_parser.specs.Sentences.{IsSentence, IsTextFault, IsLanguageFault, IsSentenceFault}
+use Rattle.jc_parser.proofs.GrammarAgreesLemmas.{reading, refusal_as, fault_as, given, Agrees}
+use Rattle.jc_parser.proofs.GuardsLemmas.{IsTold, no_memory, misfit_told, IsSentences, whole_kind}
 
--- what a tree is spelled with; within the limits, where k is true
-abbrev pub Spelling : {T : Type 0} → (T → List Symbol → Type 0) → (T → Type 0) → Language T
-Spelling L W k t w = L t w × Within k (W t)
+-- ---- faults of both types
 
--- what is spelled is read, unless it is past a limit that may be passed
-abbrev pub ReadsSpelled : {T : Type 0} → (T → List Symbol → Type 0) → (T → Type 0) → (Reading → ReadOutcome T) → Type 0
-ReadsSpelled {T} L W f = (k : Bool) (t : T) (ls : List Lexeme) (stop : ℕ) → L t (symbols ls) → Within k (W t) → ((f (reading stop ls) >>= result_of_read) ≡ Ok t) ⊎ IsPast k (f (reading stop ls) >>= result_of_read)
+-- the refusal and the offset of a text's fault are that fault's
+is_text_fault : (refusal : Refusal) (p : ℕ) → refusal_as refusal p ≢ Memory → IsTextFault (refusal_as refusal p) (record { refusal = refusal; offset = p })
+is_text_fault refusals.BadByte p other = (refl, refl)
+is_text_fault refusals.OpenString p other = (refl, refl)
+is_text_fault refusals.BadEscape p other = (refl, refl)
+is_text_fault refusals.LoneSurrogate p other = (refl, refl)
+is_text_fault refusals.BadNumber p other = (refl, refl)
+is_text_fault refusals.TextTooLong p other = (refl, refl)
+is_text_fault refusals.Unexpected p other = (refl, refl)
+is_text_fault refusals.EndOfText p other = (refl, refl)
+is_text_fault refusals.IndexTooLarge p other = (refl, refl)
+is_text_fault refusals.ReservedName p other = (refl, refl)
+is_text_fault refusals.TooManyCommands p other = (refl, refl)
+is_text_fault refusals.TooLongExpression p other = (refl, refl)
+is_text_fault refusals.NotUtf8 p other = (refl, refl)
+is_text_fault refusals.NoHeader p other = (refl, refl)
+is_text_fault refusals.SameName p other = (refl, refl)
+is_text_fault refusals.NoReplica p other = (refl, refl)
+is_text_fault refusals.TooManyReplicas p other = (refl, refl)
+is_text_fault refusals.UnknownReplica p other = (refl, refl)
+is_text_fault refusals.TooManyEvents p other = (refl, refl)
+is_text_fault refusal p other = absurd (other refl)
 
--- what is read, with nothing left, is all of it
-pub all_answered : {T : Type 0} (f : Reading → ReadOutcome T) (k : Bool) (t : T) (ls : List Lexeme) (stop : ℕ) → Answers k (f (reading stop (ls ++ []))) t (reading stop []) → ((f (reading stop ls) >>= result_of_read) ≡ Ok t) ⊎ IsPast k (f (reading stop ls) >>= result_of_read)
-all_answered f k t ls stop (inl read) = let here : f (reading stop ls) ≡ Ok (t, reading stop []) = rw append-nil at read in inl (rw here refl)
-all_answered f k t ls stop (inr past) = inr (past_then k (f (reading stop ls)) result_of_read (subst (λ (l : List Lexeme). IsPast k (f (reading stop l))) (append-nil ls) past))
+pub text_fault : (fault : ScenarioFault) (own : TextFault) → fault ≢ Memory → fault_as own ≡ fault → IsTextFault fault own
+text_fault fault own other same = subst (λ (e : ScenarioFault). IsTextFault e own) same (is_text_fault own.refusal own.offset (λ memory. other (sym same ∙ memory)))
 
-pub none_left : (ls : List Lexeme) → no_more ls ≡ true → ls ≡ []
-none_left [] e = refl
-none_left (x ∷ xs) e = absurd cc
+told : (refusal : Refusal) (p : ℕ) (own : TextFault) → Some refusal ≡ Some own.refusal → Some p ≡ Some own.offset → fault_as own ≡ refusal_as refusal p
+told refusal p own a b =
+    let same : own.refusal ≡ refusal = cc in
+    let here : own.offset ≡ p = cc in
+    ap (λ (r : Refusal). refusal_as r own.offset) same ∙ ap (refusal_as refusal) here
 
-pub same_no_more : (c y : List Lexeme) → SameHead c y → no_more c ≡ no_more y
-same_no_more [] [] s = refl
-same_no_more [] (y ∷ ys) s = absurd s
-same_no_more (x ∷ xs) [] s = absurd s
-same_no_more (x ∷ xs) (y ∷ ys) s = refl
+pub same_fault : (fault : ScenarioFault) (own : TextFault) → IsTextFault fault own → fault_as own ≡ fault
+same_fault (BadByte p) own (a, b) = told refusals.BadByte p own a b
+same_fault (OpenString p) own (a, b) = told refusals.OpenString p own a b
+same_fault (BadEscape p) own (a, b) = told refusals.BadEscape p own a b
+same_fault (LoneSurrogate p) own (a, b) = told refusals.LoneSurrogate p own a b
+same_fault (BadNumber p) own (a, b) = told refusals.BadNumber p own a b
+same_fault (TextTooLong p) own (a, b) = told refusals.TextTooLong p own a b
+same_fault (Unexpected p) own (a, b) = told refusals.Unexpected p own a b
+same_fault (EndOfText p) own (a, b) = told refusals.EndOfText p own a b
+same_fault (IndexTooLarge p) own (a, b) = told refusals.IndexTooLarge p own a b
+same_fault (ReservedName p) own (a, b) = told refusals.ReservedName p own a b
+same_fault (TooManyCommands p) own (a, b) = told refusals.TooManyCommands p own a b
+same_fault (TooLongExpression p) own (a, b) = told refusals.TooLongExpression p own a b
+same_fault (NotUtf8 p) own (a, b) = told refusals.NotUtf8 p own a b
+same_fault (NoHeader p) own (a, b) = told refusals.NoHeader p own a b
+same_fault (SameName p) own (a, b) = told refusals.SameName p own a b
+same_fault (NoReplica p) own (a, b) = told refusals.NoReplica p own a b
+same_fault (TooManyReplicas p) own (a, b) = told refusals.TooManyReplicas p own a b
+same_fault (UnknownReplica p) own (a, b) = told refusals.UnknownReplica p own a b
+same_fault (TooManyEvents p) own (a, b) = told refusals.TooManyEvents p own a b
+same_fault Memory own (a, b) = absurd cc
 
-pub sentence_ok : {T : Type 0} {L : T → List Symbol → Type 0} {W : T → Type 0} {V : Excess} {f : Reading → ReadOutcome T} → Reads (Spelling L W) V f → (r : Reading) (t : T) → (f r >>= result_of_read) ≡ Ok t → L t (symbols r.left) × W t
-sentence_ok {T} {L} {W} {V} {f} F r t e =
-    let (x, fx, gx) = bind_ok (f r) result_of_read t e in
-    let p = F.ok r x.0 x.1 fx in
-    let (no_rest, same) = chosen_ok (is_at_end x.1) x.0 t (stuck x.1) gx in
-    let rest : x.1.left ≡ [] = none_left x.1.left no_rest in
-    let all : r.left ≡ p.text = p.parts ∙ ap (λ (l : List Lexeme). p.text ++ l) rest ∙ append-nil p.text in
-    subst (λ (u : T). L u (symbols r.left) × W u) same (subst (λ (l : List Lexeme). L x.0 (symbols l)) (sym all) (p.spells true).0, (p.spells true).1)
+-- ---- what is read is exactly what is so
 
--- ---- faults
+pub record IsExactly {A : Type 0} (Is : A → Type 0) (IsFault : ScenarioFault → Type 0) (read : Result A ScenarioFault) : Type 0 where
+  pub ok : (a : A) → read ≡ Ok a → Is a
+  pub again : (a : A) → Is a → read ≡ Ok a
+  pub err : (e : ScenarioFault) → read ≡ Err e → IsFault e
+  pub refused : (e : ScenarioFault) → IsFault e → read ≡ Err e
 
-no_sentence : {T : Type 0} (L : T → List Symbol → Type 0) (W : T → Type 0) (f : Reading → ReadOutcome T) → ReadsSpelled L W f → (t : T) (ls : List Lexeme) (stop : ℕ) (e : ScenarioFault) → (IsLimitFault e → ⊥) → (f (reading stop ls) >>= result_of_read) ≡ Err e → L t (symbols ls) → ⊥
-no_sentence L W f again t ls stop e other h text =
-    elim (again false t ls stop text tt) [
-      | inl read ↦ let bad : Err e ≡ Ok t = sym h ∙ read in absurd cc
-      | inr (may, d, is, limit) ↦ let same : d ≡ e = let both : Err d ≡ Err e = sym is ∙ h in cc in other (subst IsLimitFault same limit)
-    ]
+-- the same, of what is read otherwise
+pub exactly_so : {A : Type 0} {Is : A → Type 0} {F : ScenarioFault → Type 0} {read : Result A ScenarioFault} (other : Result A ScenarioFault) → other ≡ read → IsExactly Is F read → IsExactly Is F other
+exactly_so other same p = rw same p
 
-pub fits_nothing : {T : Type 0} (L : T → List Symbol → Type 0) (W : T → Type 0) (f : Reading → ReadOutcome T) → ReadsSpelled L W f → (stop : ℕ) (before after : List Lexeme) → ((y : List Lexeme) → SameHead after y → (f (reading stop (before ++ y)) >>= result_of_read) ≡ Err (stuck_at stop after)) → FitsNothing L (symbols before) after
-fits_nothing L W f again stop before [] h = λ t text.
-    let bad : (f (reading stop before) >>= result_of_read) ≡ Err (EndOfText stop) = subst (λ (l : List Lexeme). (f (reading stop l) >>= result_of_read) ≡ Err (EndOfText stop)) (append-nil before) (h [] tt) in
-    no_sentence L W f again t before stop (EndOfText stop) (λ no. no) bad text
-fits_nothing L W f again stop before (x ∷ after) h = λ (t, more, text).
-    let whole : symbols (before ++ x ∷ lexed more) ≡ (symbols before ++ x.symbol ∷ []) ++ more =
-    symbols-append before (x ∷ lexed more) ∙ ap (λ (l : List Symbol). symbols before ++ x.symbol ∷ l) (symbols-lexed more) ∙ sym (append_assoc (symbols before) (x.symbol ∷ []) more) in
-    no_sentence L W f again t (before ++ x ∷ lexed more) stop (Unexpected x.place) (λ no. no) (h (x ∷ lexed more) refl) (subst (L t) (sym whole) text)
-
-kept_symbols : (kept before : List Lexeme) → IsKept kept before → (symbols before ≡ symbols kept) ⊎ (symbols before ≡ symbols kept ++ dot ∷ [])
-kept_symbols kept before (inl same) = inl (ap symbols same)
-kept_symbols kept before (inr (d, is, same)) = inr (ap symbols same ∙ symbols-append kept (d ∷ []) ∙ ap (λ (s : Symbol). symbols kept ++ s ∷ []) is)
-
-begun_by : {T : Type 0} (L : T → List Symbol → Type 0) (W : T → Type 0) (kept before : List Lexeme) → IsKept kept before → Begun (Spelling L W true) (symbols kept) → Begun (Spelling L W false) (symbols before) → IsBegun L W (symbols before)
-begun_by L W kept before rest (t, more, text) (u, others, longer) = record {
-  begins = (u, others, longer.0);
-  kept = symbols kept;
-  within = (t, more, (text.1, text.0));
-  rest = kept_symbols kept before rest;
-}
-
-ended_late : {T : Type 0} (f : Reading → ReadOutcome T) (stop : ℕ) (ls y c : List Lexeme) (t : T) (e : ScenarioFault) → f (reading stop ls) ≡ Ok (t, reading stop y) → no_more y ≡ false → stuck_at stop y ≡ stuck_at stop c → e ≡ stuck_at stop c → (f (reading stop ls) >>= result_of_read) ≡ Err e
-ended_late f stop ls y c t e here more agree is = rw (here, more) (ap Err (agree ∙ sym is))
-
-ended_stuck : {T : Type 0} (f : Reading → ReadOutcome T) (stop : ℕ) (ls : List Lexeme) (e d : ScenarioFault) → f (reading stop ls) ≡ Err e → e ≡ d → (f (reading stop ls) >>= result_of_read) ≡ Err d
-ended_stuck f stop ls e d here is = rw here (ap Err is)
-
-pub sentence_err : {T : Type 0} {L : T → List Symbol → Type 0} {W : T → Type 0} {V : Excess} {f : Reading → ReadOutcome T} → Reads (Spelling L W) V f → ReadsSpelled L W f → (r : Reading) (e : ScenarioFault) → (f r >>= result_of_read) ≡ Err e → IsStopped L W V r e
-sentence_err {T} {L} {W} {V} {f} F again r e h =
-    elim (bind_err (f r) result_of_read e h) [
-      | inl fe ↦
-          let t = F.err r e fe in
-          record {
-            before = t.before;
-            after = t.after;
-            parts = t.parts;
-            stops =
-                elim t.reason [
-                  | inl m ↦
-                      inl (record {
-                        begun = begun_by L W m.kept t.before m.rest m.within m.begun;
-                        unfit = fits_nothing L W f again r.stop t.before t.after (λ y same. ended_stuck f r.stop (t.before ++ y) e (stuck_at r.stop t.after) (m.again y same) m.fault);
-                        is = m.fault;
-                      })
-                  | inr o ↦ inr o
-                ];
-          }
-      | inr (x, fx, ge) ↦
-          let p = F.ok r x.0 x.1 fx in
-          let (more, fault) = chosen_err (is_at_end x.1) x.0 (stuck x.1) e ge in
-          let is : e ≡ stuck_at r.stop x.1.left = sym fault ∙ ap (λ n. stuck_at n x.1.left) p.stop in
-          record {
-            before = p.text;
-            after = x.1.left;
-            parts = p.parts;
-            stops =
-                inl (record {
-                  begun = begun_by L W p.text p.text (inl refl) (x.0, [], rw append-nil (p.spells true)) (x.0, [], rw append-nil (p.spells false));
-                  unfit = fits_nothing L W f again r.stop p.text x.1.left (λ y same. ended_late f r.stop (p.text ++ y) y x.1.left x.0 (stuck_at r.stop x.1.left) (p.again y same) (sym (same_no_more x.1.left y same) ∙ more) (sym (same_stuck r.stop x.1.left y same)) refl);
-                  is = is;
-                });
-          }
-    ]
-
--- ---- one tree
-
-pub one_sentence : {T : Type 0} (L : T → List Symbol → Type 0) (W : T → Type 0) (f : Reading → ReadOutcome T) → ReadsSpelled L W f → (w : List Symbol) (t u : T) → W t → L t w → L u w → t ≡ u
-one_sentence {T} L W f again w t u within first second =
-    by_reads
-    (again true t (lexed w) 0 (subst (L t) (sym (symbols-lexed w)) first) within)
-    (again false u (lexed w) 0 (subst (L u) (sym (symbols-lexed w)) second) tt)
+-- one at most; no fault beside it; it or a fault; one fault at most
+pub one_of : {A : Type 0} {Is : A → Type 0} {F : ScenarioFault → Type 0} {read : Result A ScenarioFault} → IsExactly Is F read → (a b : A) → Is a → Is b → a ≡ b
+one_of {A} p a b one two = let both : as_ok a ≡ Ok b = sym (p.again a one) ∙ p.again b two in cc
   where
-    by_reads : ((f (reading 0 (lexed w)) >>= result_of_read) ≡ Ok t) ⊎ IsPast true (f (reading 0 (lexed w)) >>= result_of_read) → ((f (reading 0 (lexed w)) >>= result_of_read) ≡ Ok u) ⊎ IsPast false (f (reading 0 (lexed w)) >>= result_of_read) → t ≡ u
-    by_reads (inr past) other = absurd (not_past true (f (reading 0 (lexed w)) >>= result_of_read) refl past)
-    by_reads (inl read) (inl other) = let both : Ok t ≡ Ok u = sym read ∙ other in cc
-    by_reads (inl read) (inr (may, d, is, limit)) = let bad : Ok t ≡ Err d = sym read ∙ is in absurd cc
+    as_ok : A → Result A ScenarioFault
+    as_ok x = Ok x
+
+pub none_beside : {A : Type 0} {Is : A → Type 0} {F : ScenarioFault → Type 0} {read : Result A ScenarioFault} → IsExactly Is F read → (a : A) (e : ScenarioFault) → Is a → F e → ⊥
+none_beside {A} p a e is fault = let both : as_ok a ≡ Err e = sym (p.again a is) ∙ p.refused e fault in cc
+  where
+    as_ok : A → Result A ScenarioFault
+    as_ok x = Ok x
+
+pub one_or_fault : {A : Type 0} {Is : A → Type 0} {F : ScenarioFault → Type 0} {read : Result A ScenarioFault} → IsExactly Is F read → ((a : A) × Is a) ⊎ ((e : ScenarioFault) × F e)
+one_or_fault {A} {Is} {F} {read} p = by_read read refl
+  where
+    by_read : (r : Result A ScenarioFault) → read ≡ r → ((a : A) × Is a) ⊎ ((e : ScenarioFault) × F e)
+    by_read (Ok a) h = inl (a, p.ok a h)
+    by_read (Err e) h = inr (e, p.err e h)
+
+pub one_fault_of : {A : Type 0} {Is : A → Type 0} {F : ScenarioFault → Type 0} {read : Result A ScenarioFault} → IsExactly Is F read → (d e : ScenarioFault) → F d → F e → d ≡ e
+one_fault_of {A} p d e one two = let both : as_err d ≡ Err e = sym (p.refused d one) ∙ p.refused e two in cc
+  where
+    as_err : ScenarioFault → Result A ScenarioFault
+    as_err x = Err x
+
+-- as the clauses have it, of what a function returns
+pub tree_so : {X A : Type 0} {Is : A → Type 0} {F : ScenarioFault → Type 0} {read : Result A ScenarioFault} → IsExactly Is F read → (view : X → A) (result : Result X ScenarioFault) → MapsResult view result read → IfOk result (λ x. Is (view x))
+tree_so p view (Ok x) h = p.ok (view x) h
+tree_so p view (Err e) h = tt
+
+pub fault_so : {X A : Type 0} {Is : A → Type 0} {F : ScenarioFault → Type 0} {read : Result A ScenarioFault} → IsExactly Is F read → (view : X → A) (result : Result X ScenarioFault) → MapsResult view result read → IfErr result (λ e. e ≢ Memory → F e)
+fault_so p view (Ok x) h = tt
+fault_so p view (Err e) h = λ other. p.err e (h other)
+
+-- ---- a grammar's reader
+
+-- what is read of a whole tree, by a function
+abbrev pub given_whole : {T A : Type 0} → (T → A) → Result T NoticedFault → Result A ScenarioFault
+given_whole view (Ok t) = Ok (view t)
+given_whole view (Err e) = Err (fault_as e.fault)
+
+given_ok : {T A : Type 0} (view : T → A) (r : Result T NoticedFault) (a : A) → given_whole view r ≡ Ok a → (t : T) × (r ≡ Ok t) × (a ≡ view t)
+given_ok view (Ok t) a h = (t, refl, cc)
+given_ok view (Err e) a h = absurd cc
+
+pub given_err : {T A : Type 0} (view : T → A) (r : Result T NoticedFault) (e : ScenarioFault) → given_whole view r ≡ Err e → (d : NoticedFault) × (r ≡ Err d) × (fault_as d.fault ≡ e)
+given_err view (Ok t) e h = absurd cc
+given_err view (Err d) e h = (d, refl, cc)
+
+-- lexemes that a tree of a language is spelled with, and what it says
+abbrev pub IsIn : {T A : Type 0} → Language T → (T → A) → List Lexeme → A → Type 0
+IsIn {T} L view ls a = (t : T) × L t None ls × (a ≡ view t)
+
+-- a function that decides a language reads exactly what is in it
+pub decides_exactly : {T A : Type 0} {L : Language T} {misfit : Misfit} {f : TextFunction T} → Decides L misfit f → (view : T → A) (ls : List Lexeme) → ((e : NoticedFault) → f ls ≡ Err e → IsTold (fault_as e.fault))
+    → IsExactly (IsIn L view ls) (IsLanguageFault L misfit ls) (given_whole view (f ls))
+decides_exactly {T} {A} {L} {misfit} {f} D view ls told_of = record { ok = ok; again = again; err = err; refused = refused }
+  where
+    ok : (a : A) → given_whole view (f ls) ≡ Ok a → IsIn L view ls a
+    ok a h = let (t, read, is) = given_ok view (f ls) a h in (t, D.ok ls t read, is)
+
+    again : (a : A) → IsIn L view ls a → given_whole view (f ls) ≡ Ok a
+    again a (t, text, is) = rw (D.again t None ls text, is) refl
+
+    err : (e : ScenarioFault) → given_whole view (f ls) ≡ Err e → IsLanguageFault L misfit ls e
+    err e h =
+        let (d, read, is) = given_err view (f ls) e h in
+        (d.fault, refused_so D ls d.fault (d.rest, read), text_fault e d.fault (λ memory. told_of d read (is ∙ memory)) is)
+
+    refused : (e : ScenarioFault) → IsLanguageFault L misfit ls e → given_whole view (f ls) ≡ Err e
+    refused e (own, is, text) =
+        let (rest, read) = fault_refused D ls own is in
+        rw read (ap (λ (x : ScenarioFault). Err x) (same_fault e own text))
+
+pub reads_exactly : {A : Type 0} (g : Grammar) → is_decided g [] ≡ true → (misfit : Misfit) → ((after : List Lexeme) → IsTold (fault_as (misfit after))) → (view : ParseTree g → A) (ls : List Lexeme)
+    → IsExactly (IsSentence g view ls) (IsSentenceFault g misfit ls) (given_whole view (read_whole g misfit nothing_seen ls))
+reads_exactly g decided misfit told_of view ls =
+    let p = decides_exactly (decides_all g decided misfit nothing_seen) view ls (λ e h. no_memory misfit told_of g nothing_seen ls e h) in
+    record {
+      ok = λ a h. (let (t, text, is) = p.ok a h in record { tree = t; text = text; is = is });
+      again = λ a s. p.again a (s.tree, s.text, s.is);
+      err = p.err;
+      refused = p.refused;
+    }
+
+-- a reader that agrees with a grammar, up to the end
+whole_same : {A : Type 0} {g : Grammar} {view : ParseTree g → A} {f : Reading → ReadOutcome A} → Agrees g view f → (stop : ℕ) (ls : List Lexeme) → (f (reading stop ls) >>= result_of_read) ≡ given_whole view (read_whole g (misfit_at stop) nothing_seen ls)
+whole_same {A} {g} {view} F stop ls = ap (λ (o : ReadOutcome A). o >>= result_of_read) (F.same stop nothing_seen ls) ∙ by_rest (read_tree g (misfit_at stop) nothing_seen ls)
+  where
+    by_rest : (o : TreeOutcome (ParseTree g)) → (given view stop o >>= result_of_read) ≡ given_whole view (o ⟫ λ a. whole_of (misfit_at stop) a.0 a.2)
+    by_rest (Ok (t, s, [])) = refl
+    by_rest (Ok (t, s, x ∷ xs)) = refl
+    by_rest (Err e) = refl
+
+-- what is read whole by a reader that agrees with a decided grammar is exactly its sentence
+pub agrees_exactly : {A : Type 0} {g : Grammar} {view : ParseTree g → A} {f : Reading → ReadOutcome A} → Agrees g view f → is_decided g [] ≡ true → (r : Reading)
+    → IsExactly (IsSentence g view r.left) (IsSentenceFault g (misfit_at r.stop) r.left) (f r >>= result_of_read)
+agrees_exactly {A} {g} {view} {f} F decided r = exactly_so (f r >>= result_of_read) (whole_same F r.stop r.left) (reads_exactly g decided (misfit_at r.stop) (misfit_told r.stop) view r.left)
+
+-- ---- faults of sentences
+
+-- want of memory aside
+pub kind_is : (e : ScenarioFault) → (e ≢ Memory → IsOfSentence e) → IsOfSentence e
+kind_is Memory h = (sentence.Memory, refl)
+kind_is (BadByte p) h = h (λ e. cc)
+kind_is (OpenString p) h = h (λ e. cc)
+kind_is (BadEscape p) h = h (λ e. cc)
+kind_is (LoneSurrogate p) h = h (λ e. cc)
+kind_is (BadNumber p) h = h (λ e. cc)
+kind_is (TextTooLong p) h = h (λ e. cc)
+kind_is (Unexpected p) h = h (λ e. cc)
+kind_is (EndOfText p) h = h (λ e. cc)
+kind_is (IndexTooLarge p) h = h (λ e. cc)
+kind_is (ReservedName p) h = h (λ e. cc)
+kind_is (TooManyCommands p) h = h (λ e. cc)
+kind_is (TooLongExpression p) h = h (λ e. cc)
+kind_is (NotUtf8 p) h = h (λ e. cc)
+kind_is (NoHeader p) h = h (λ e. cc)
+kind_is (SameName p) h = h (λ e. cc)
+kind_is (NoReplica p) h = h (λ e. cc)
+kind_is (TooManyReplicas p) h = h (λ e. cc)
+kind_is (UnknownReplica p) h = h (λ e. cc)
+kind_is (TooManyEvents p) h = h (λ e. cc)
+
+pub lexical_is : (d : LexFault) → IsOfSentence (from_lexer d)
+lexical_is (lexical.BadByte p) = (sentence.BadByte p, refl)
+lexical_is (lexical.OpenString p) = (sentence.OpenString p, refl)
+lexical_is (lexical.BadEscape p) = (sentence.BadEscape p, refl)
+lexical_is (lexical.LoneSurrogate p) = (sentence.LoneSurrogate p, refl)
+lexical_is (lexical.BadNumber p) = (sentence.BadNumber p, refl)
+lexical_is (lexical.TextTooLong p) = (sentence.TextTooLong p, refl)
+lexical_is lexical.Memory = (sentence.Memory, refl)
+
+pub memory_is : (e : ParseFault) → from_sentence e ≡ Memory → e ≡ sentence.Memory
+memory_is sentence.Memory h = refl
+memory_is e h = absurd cc
+
+-- and its fault is one of sentences where its guards are
+pub kind_so : {X A : Type 0} {g : Grammar} {view : ParseTree g → A} {f : Reading → ReadOutcome A} → Agrees g view f → IsSentences g → (r : Reading) (own : X → A) (result : Result X ScenarioFault) → MapsResult own result (f r >>= result_of_read) → IfErr result IsOfSentence
+kind_so F guards r own (Ok x) h = tt
+kind_so {g} {view} {f} F guards r own (Err e) h = kind_is e (λ kept. of_read e (h kept))
+  where
+    of_read : (d : ScenarioFault) → (f r >>= result_of_read) ≡ Err d → IsOfSentence d
+    of_read d read =
+        let (own, refused, is) = given_err view (read_whole g (misfit_at r.stop) nothing_seen r.left) d (sym (whole_same F r.stop r.left) ∙ read) in
+        subst IsOfSentence is (whole_kind g guards r.stop nothing_seen r.left own refused)

@@ -3,8 +3,8 @@ use Rattle.std.proofs.Common.{◌≡◌, ℕ, ◌&&◌, List, refl}
 use Rattle.std.specs.Str.{bytes_eq}
 use Rattle.jc_syntax.specs.declared.token.TokenKind.{TokenKind}
 use Rattle.jc_syntax.specs.declared.token.TokenKind.TheVariants.{Name, Number, Str, Dot, ParenL, ParenR, BraceL, BraceR, BracketL, BracketR, Comma, Semi, Assign, Equals}
-use Rattle.jc_parser.specs.Symbols.{symbol_of}
-use Rattle.jc_parser.specs.ReservedWords.{is_reserved}
+use Rattle.jc_grammar.specs.Symbols.{symbol_of}
+use Rattle.jc_grammar.specs.SymbolTests.{is_reserved}
 use Rattle.jc_parser.specs.ReaderState.{kind_of_symbol, same_kind, is_word, is_number_symbol, reserved}
 
 pub kind_again : (k : TokenKind) (b c : List ℕ) → kind_of_symbol (symbol_of k b c) ≡ k

@@ -1,4 +1,4 @@
--- How an event is read from left to right. The code follows these readers; a reader believes `Events`.
+-- How an event is read from left to right. The code follows these readers; a reader believes the grammar.
 use Rattle.std.specs.Prelude.{ℕ, codes, if◌then◌else◌, Result, Ok}
 use Rattle.jc_rules.specs.declared.version.Version.{Version}
 use Rattle.jc_rules.specs.declared.version.Version.TheVariants.{One, Two}

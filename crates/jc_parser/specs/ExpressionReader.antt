@@ -1,14 +1,14 @@
--- How an expression is read from left to right. The code follows these readers; a reader believes `Expressions`.
-use Rattle.std.specs.Prelude.{ℕ, zero, suc, List, Bool, true, false, ◌&&◌, not, nat_lt, if◌then◌else◌, codes, Result, Ok, Err}
+-- How an expression is read from left to right. The code follows these readers; a reader believes the grammar.
+use Rattle.std.specs.Prelude.{ℕ, zero, suc, List, Bool, true, false, ◌&&◌, not, ◌||◌, nat_lt, if◌then◌else◌, codes, Result, Ok, Err}
 use Rattle.jc_syntax.specs.declared.token.TokenKind.TheVariants.{Dot, ParenL, ParenR}
-use Rattle.jc_rules.specs.Syntax.{Expr, TheDoc, Variable}
+use Rattle.jc_rules.specs.Syntax.{Expr, TheDoc, Variable, GetKey, Index, KeysOf, ValuesOf}
 use Rattle.jc_rules.specs.declared.limits.TheConstants.{MAX_SELECTORS}
 use Rattle.jc_parser.specs.declared.fault.ScenarioFault.{ScenarioFault}
 use Rattle.jc_parser.specs.declared.fault.ScenarioFault.TheVariants.{TooLongExpression, IndexTooLarge}
-use Rattle.jc_parser.specs.Symbols.{Symbol, number}
+use Rattle.jc_grammar.specs.Symbols.{Symbol, number}
+use Rattle.jc_grammar.specs.SymbolTests.{is_numeral, numeral_value}
 use Rattle.jc_parser.specs.ReaderState.{Reading, ReadOutcome, ◌>>=◌, place, stuck, begins, has_kind, is_word, skip, take}
 use Rattle.jc_parser.specs.PartReaders.{get_at, read_name_at, result_of_read}
-use Rattle.jc_parser.specs.Expressions.{is_numeral, numeral_value, Selector, by_key, by_index, by_keys, by_values, is_selector, extended}
 
 -- ---- numbers
 
@@ -28,6 +28,24 @@ index_at r =
     if begins is_large r then Err (IndexTooLarge (place r)) else (take is_index r >>= λ x. Ok (numeral_value x.0, x.1))
 
 -- ---- selectors
+
+pub data Selector : Type 0 where
+  by_key : List ℕ → Selector
+  by_index : ℕ → Selector
+  by_keys : Selector
+  by_values : Selector
+
+-- a word that begins a selector
+abbrev pub is_selector : Symbol → Bool
+is_selector s =
+    is_word (codes "get") s || (is_word (codes "idx") s || (is_word (codes "keys") s || is_word (codes "values") s))
+
+-- an expression, extended by one selector
+abbrev pub extended : Expr → Selector → Expr
+extended e (by_key key) = GetKey e key
+extended e (by_index i) = Index e i
+extended e by_keys = KeysOf e
+extended e by_values = ValuesOf e
 
 unfoldable pub key_selector_at : Reading → ReadOutcome Selector
 key_selector_at r = do

@@ -6,10 +6,8 @@ use Rattle.jc_syntax.specs.declared.token.Token.{Token}
 use Rattle.jc_syntax.specs.declared.tree.NamedEvent.{NamedEvent}
 use Rattle.jc_syntax.specs.Lexemes.{IsTokenOf}
 use Rattle.jc_rules.specs.Syntax.{Expr, Cmd}
-use Rattle.jc_parser.specs.Expressions.{IsWellFormedExpression}
-use Rattle.jc_parser.specs.ExpressionFaults.{IsExpressionOf}
-use Rattle.jc_parser.specs.Scripts.{IsScriptWellFormed, IsScriptOf}
-use Rattle.jc_parser.specs.ClosedScripts.{IsScriptAt}
+use Rattle.jc_parser.specs.Expressions.{IsWellFormedExpression, IsExpressionOf}
+use Rattle.jc_parser.specs.Scripts.{IsScriptWellFormed, IsScriptOf, IsScriptAt}
 use Rattle.jc_parser.specs.Events.{call_of, IsCallWellFormed, IsEventOf, IsEventAt}
 use Rattle.jc_parser.specs.ReaderState.{reading_of}
 use Rattle.jc_parser.specs.Scenarios.{NamedTree, tree_of_named, IsTreeWithin, IsNamedTree}

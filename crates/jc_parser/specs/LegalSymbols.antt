@@ -9,8 +9,7 @@ use Rattle.jc_rules.specs.declared.value.Value.TheVariants as values
 use Rattle.jc_rules.specs.Syntax.{Expr, TheDoc, Variable, GetKey, Index, KeysOf, ValuesOf, Cmd, LetIn, SetTo, InsertAfter, DeleteAt, Yield}
 use Rattle.jc_syntax.specs.Bytes.{is_name_start, is_name_byte}
 use Rattle.jc_syntax.specs.Numbers.{IsNumber}
-use Rattle.jc_parser.specs.Events.{Call, executes, sends, receives, takes, applies, ends}
-use Rattle.jc_parser.specs.Scenarios.{Part, ScenarioTree}
+use Rattle.jc_parser.specs.NamedTrees.{Call, executes, sends, receives, takes, applies, ends, Part, ScenarioTree}
 use Rattle.jc_rules.specs.ReplicaNames.{name_at}
 use Rattle.jc_rules.specs.declared.limits.TheConstants.{MAX_NAME, MAX_STRING}
 

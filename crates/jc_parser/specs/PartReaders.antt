@@ -7,7 +7,7 @@ use Rattle.jc_rules.specs.declared.value.Value.{Value}
 use Rattle.jc_rules.specs.declared.value.Value.TheVariants as values
 use Rattle.jc_parser.specs.declared.fault.ScenarioFault.{ScenarioFault}
 use Rattle.jc_parser.specs.declared.fault.ScenarioFault.TheVariants.{ReservedName, NoHeader, NoReplica}
-use Rattle.jc_parser.specs.Symbols.{Symbol}
+use Rattle.jc_grammar.specs.Symbols.{Symbol}
 use Rattle.jc_parser.specs.ReaderState.{Reading, ReadOutcome, ◌>>=◌, place, stuck, begins, has_kind, is_word, is_number_symbol, reserved, named_at, skip, take, is_at_end}
 
 -- ---- expressions

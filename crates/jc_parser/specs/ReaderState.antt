@@ -7,7 +7,7 @@ use Rattle.jc_parser.specs.declared.fault.ScenarioFault.TheVariants.{Unexpected,
 use Rattle.jc_syntax.specs.declared.tree.Named.{Named}
 pub use Rattle.jc_grammar.specs.Symbols.{place_at}
 pub use Rattle.jc_grammar.specs.SymbolTests.{kind_of_symbol, number_of_kind, same_kind, has_kind, value_of_symbol, is_word, is_number_symbol, reserved}
-use Rattle.jc_parser.specs.Symbols.{Symbol, Lexeme, lexemes}
+use Rattle.jc_grammar.specs.Symbols.{Symbol, Lexeme, lexemes}
 
 -- the lexemes that are left, and the length of the text
 pub record Reading : Type 0 where

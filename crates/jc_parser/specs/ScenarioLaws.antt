@@ -2,8 +2,7 @@
 use Rattle.std.specs.Prelude.{◌≡◌, ◌⊎◌}
 use Rattle.jc_parser.specs.declared.fault.ScenarioFault.{ScenarioFault}
 use Rattle.jc_parser.specs.ReaderState.{Reading}
-use Rattle.jc_parser.specs.Scenarios.{NamedTree, IsNamedTree}
-use Rattle.jc_parser.specs.ScenarioFaults.{IsTreeFault}
+use Rattle.jc_parser.specs.Scenarios.{NamedTree, IsNamedTree, IsTreeFault}
 
 -- Tokens are one scenario at most, with one offset for each name in its events.
 abbrev pub OneNamedTree : Type 0

@@ -1,4 +1,4 @@
--- How a scenario is read from left to right. The code follows these readers; a reader believes `Scenarios`.
+-- How a scenario is read from left to right. The code follows these readers; a reader believes the grammar.
 use Rattle.std.specs.Prelude.{ℕ, zero, suc, ◌-◌, List, [], ◌∷◌, ◌++◌, Bool, false, if◌then◌else◌, codes, Result, Ok, Err}
 use Rattle.std.specs.Str.{bytes_eq}
 use Rattle.std.specs.List.{list_any}
@@ -10,12 +10,12 @@ use Rattle.jc_rules.specs.Syntax.{Cmd}
 use Rattle.jc_rules.specs.declared.limits.TheConstants.{MAX_EVENTS, MAX_REPLICAS}
 use Rattle.jc_parser.specs.declared.fault.ScenarioFault.{ScenarioFault}
 use Rattle.jc_parser.specs.declared.fault.ScenarioFault.TheVariants.{ReservedName, SameName, TooManyReplicas, TooManyEvents}
-use Rattle.jc_parser.specs.Symbols.{Symbol, word}
+use Rattle.jc_grammar.specs.Symbols.{Symbol, word}
 use Rattle.jc_parser.specs.ReaderState.{Reading, ReadOutcome, ◌>>=◌, place, stuck, begins, has_kind, is_word, reserved, named_at, skip}
 use Rattle.jc_parser.specs.PartReaders.{items_at, front_at, result_of_read}
 use Rattle.jc_parser.specs.ScriptReader.{closed_script_at}
 use Rattle.jc_parser.specs.EventReader.{any_event_at}
-use Rattle.jc_parser.specs.Scenarios.{Part, NamedTree}
+use Rattle.jc_parser.specs.NamedTrees.{Part, NamedTree, tree, with_replica_part}
 
 -- ---- a replica
 
@@ -76,19 +76,12 @@ given_at Two n r = any_block_at (codes "given") Two n r
 
 -- ---- scenarios
 
-abbrev pub tree : Version → List Part → List NamedEvent → List NamedEvent → NamedTree
-tree v parts given events = record { version = v; parts = parts; given = given; events = events }
-
 -- the given events and the schedule, behind the replicas
 unfoldable pub blocks_at : Version → ℕ → Reading → ReadOutcome NamedTree
 blocks_at v n r = do
   g ← given_at v n r
   s ← any_block_at (codes "schedule") v n g.1
   Ok (tree v [] g.0 s.0, s.1)
-
--- a replica before the others
-abbrev pub with_replica_part : Part → NamedTree → NamedTree
-with_replica_part p t = tree t.version (p ∷ t.parts) t.given t.events
 
 -- the fault of one replica more than there may be, after its word
 abbrev pub too_many_replicas_at : List (List ℕ) → Reading → ScenarioFault

@@ -3,7 +3,7 @@ use Rattle.std.specs.Prelude.{ℕ, List, map}
 use Rattle.jc_syntax.specs.Trees.{cmd_of}
 use Rattle.jc_parser.specs.declared.scenarios.NamedReplica as replicas
 use Rattle.jc_parser.specs.declared.scenarios.NamedScenario as scenarios
-use Rattle.jc_parser.specs.Scenarios.{Part, NamedTree, name_of_part}
+use Rattle.jc_parser.specs.NamedTrees.{Part, NamedTree, name_of_part}
 
 abbrev pub part_view : replicas.NamedReplica → Part
 part_view p = record { name = p.name; script = map cmd_of p.script.items }

@@ -1,4 +1,4 @@
--- How a script is read from left to right. The code follows these readers; a reader believes `Scripts`.
+-- How a script is read from left to right. The code follows these readers; a reader believes the grammar.
 use Rattle.std.specs.Prelude.{ℕ, List, Bool, true, false, if◌then◌else◌, codes, Result, Ok}
 use Rattle.jc_syntax.specs.declared.token.TokenKind.{TokenKind}
 use Rattle.jc_syntax.specs.declared.token.TokenKind.TheVariants.{Name, ParenL, ParenR, BraceL, BraceR, BracketL, BracketR, Assign, Equals}

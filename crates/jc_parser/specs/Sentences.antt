@@ -1,60 +1,57 @@
--- Whole texts that are a sentence, and the faults of others, for any language. A language says how a tree is spelled,
--- perhaps past a limit; which trees are within the limits; and what is too much after which symbols.
-use Rattle.std.specs.Prelude.{◌≡◌, ℕ, ◌⊎◌, List, [], ◌∷◌, ◌++◌}
+-- Lexemes and texts by a grammar: what they are, or the fault that they have. The four languages are instances.
+use Rattle.std.specs.Prelude.{◌≡◌, ◌⊎◌, ℕ, List, ◌++◌, length, Some, None}
 use Rattle.jc_syntax.specs.declared.token.Token.{Token}
 use Rattle.jc_syntax.specs.declared.fault.LexFault.{LexFault}
 use Rattle.jc_syntax.specs.Lexemes.{AreTokensOf, IsFaultOf}
+use Rattle.jc_grammar.specs.Symbols.{Lexeme, lexemes}
+use Rattle.jc_grammar.specs.Guards.{TextFault, Misfit, nothing_seen}
+use Rattle.jc_grammar.specs.Grammar.{Grammar, ParseTree}
+use Rattle.jc_grammar.specs.Faults.{Language, IsTreeText, IsTreeBefore, IsFaultIn}
+use Rattle.jc_grammar.specs.ScenarioGrammar.{misfit_at}
 use Rattle.jc_parser.specs.declared.fault.ScenarioFault.{ScenarioFault}
-use Rattle.jc_parser.specs.Symbols.{Symbol, dot, Lexeme, lexemes, symbols}
-use Rattle.jc_parser.specs.ReaderState.{Reading, reading_of, stuck_at}
-use Rattle.jc_parser.specs.Faults.{from_lexer}
+use Rattle.jc_parser.specs.Faults.{fault_refusal, fault_offset, from_lexer}
+use Rattle.jc_parser.specs.ReaderState.{Reading, reading_of}
 
--- a sentence begins so
-abbrev pub Begins : {T : Type 0} → (T → List Symbol → Type 0) → List Symbol → Type 0
-Begins {T} L xs = (t : T) × (more : List Symbol) × L t (xs ++ more)
+-- These lexemes are what a tree of the grammar is spelled with, and no guard refuses. This is what the tree says.
+pub record IsSentence (g : Grammar) {A : Type 0} (view : ParseTree g → A) (ls : List Lexeme) (a : A) : Type 0 where
+  pub tree : ParseTree g
+  pub text : IsTreeText g nothing_seen tree None ls
+  pub is : a ≡ view tree
 
--- A sentence begins so, and no limit is passed. Whether a dot is one too many, only the word after it says.
-pub record IsBegun {T : Type 0} (L : T → List Symbol → Type 0) (W : T → Type 0) (xs : List Symbol) : Type 0 where
-  pub begins : Begins L xs
-  pub kept : List Symbol
-  pub within : Begins (λ t w. W t × L t w) kept
-  pub rest : (xs ≡ kept) ⊎ (xs ≡ kept ++ dot ∷ [])
+-- the fault has this refusal and this offset
+abbrev pub IsTextFault : ScenarioFault → TextFault → Type 0
+IsTextFault fault own = (fault_refusal fault ≡ Some own.refusal) × (fault_offset fault ≡ Some own.offset)
 
--- with what comes next, this is the prefix of no sentence; or it is no sentence, and nothing comes next
-abbrev pub FitsNothing : {T : Type 0} → (T → List Symbol → Type 0) → List Symbol → List Lexeme → Type 0
-FitsNothing {T} L xs [] = (t : T) → L t xs → ⊥
-FitsNothing L xs (next ∷ after) = Begins L (xs ++ next.symbol ∷ []) → ⊥
+-- the fault of lexemes that are in no language
+abbrev pub IsLanguageFault : {T : Type 0} → Language T → Misfit → List Lexeme → ScenarioFault → Type 0
+IsLanguageFault L misfit ls fault = (own : TextFault) × IsFaultIn L misfit ls own × IsTextFault fault own
 
--- After these lexemes, which begin a sentence, comes what fits nothing.
-pub record IsOutOfPlace {T : Type 0} (L : T → List Symbol → Type 0) (W : T → Type 0)
-    (fault : ScenarioFault) (stop : ℕ) (before after : List Lexeme) : Type 0 where
-  pub begun : IsBegun L W (symbols before)
-  pub unfit : FitsNothing L (symbols before) after
-  pub is : fault ≡ stuck_at stop after
+-- the fault of lexemes that are no text of the grammar
+abbrev pub IsSentenceFault : Grammar → Misfit → List Lexeme → ScenarioFault → Type 0
+IsSentenceFault g misfit ls fault = IsLanguageFault (IsTreeText g nothing_seen) misfit ls fault
 
--- the fault after these symbols, at what comes next and fits
-abbrev pub Excess : Type 1
-Excess = ScenarioFault → List Symbol → List Lexeme → Type 0
+-- the fault of lexemes that begin with no text of the grammar
+abbrev pub IsPrefixFault : Grammar → Reading → ScenarioFault → Type 0
+IsPrefixFault g r fault = IsLanguageFault (IsTreeBefore g nothing_seen) (misfit_at r.stop) r.left fault
 
--- the fault of these lexemes
-pub record IsStopped {T : Type 0} (L : T → List Symbol → Type 0) (W : T → Type 0)
-    (V : Excess) (r : Reading) (fault : ScenarioFault) : Type 0 where
+-- a prefix of these lexemes is this, and this many are left
+pub record IsAhead {A : Type 0} (Is : List Lexeme → A → Type 0) (ls : List Lexeme) (a : A) (left : ℕ) : Type 0 where
   pub before : List Lexeme
   pub after : List Lexeme
-  pub parts : r.left ≡ before ++ after
-  pub stops : IsOutOfPlace L W fault r.stop before after ⊎ V fault (symbols before) after
+  pub parts : ls ≡ before ++ after
+  pub sentence : Is before a
+  pub count : left ≡ length after
 
--- a text is the sentence of a tree within the limits
-pub record IsSentence {T : Type 0} (L : T → List Symbol → Type 0) (W : T → Type 0)
-    (text : List ℕ) (t : T) : Type 0 where
+-- ---- texts
+
+-- the tokens of a text are this
+pub record IsOfText {A : Type 0} (Is : List Lexeme → A → Type 0) (text : List ℕ) (a : A) : Type 0 where
   pub tokens : List Token
   pub lexed : AreTokensOf text tokens
-  pub spelled : L t (symbols (lexemes text tokens))
-  pub within : W t
+  pub sentence : Is (lexemes text tokens) a
 
--- the fault of a text: that of its tokens, else that of its sentence
-abbrev pub IsSentenceFault :
-    {T : Type 0} → (T → List Symbol → Type 0) → (T → Type 0) → Excess → List ℕ → ScenarioFault → Type 0
-IsSentenceFault L W V text fault =
+-- the fault of a text: that of its tokens, else that of its lexemes
+abbrev pub IsFaultOfText : (Reading → ScenarioFault → Type 0) → List ℕ → ScenarioFault → Type 0
+IsFaultOfText IsFault text fault =
     ((lexical : LexFault) × IsFaultOf text lexical × (fault ≡ from_lexer lexical))
-    ⊎ ((tokens : List Token) × AreTokensOf text tokens × IsStopped L W V (reading_of text tokens) fault)
+    ⊎ ((tokens : List Token) × AreTokensOf text tokens × IsFault (reading_of text tokens) fault)

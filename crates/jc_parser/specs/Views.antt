@@ -3,8 +3,7 @@ use Rattle.jc_syntax.specs.Trees.{expr_of}
 use Rattle.jc_parser.specs.declared.expressions.Selector as language
 use Rattle.jc_parser.specs.declared.expressions.Selector.TheVariants as selectors
 use Rattle.jc_parser.specs.declared.expressions.Chain as chains
-use Rattle.jc_parser.specs.Expressions.{Selector, by_key, by_index, by_keys, by_values}
-use Rattle.jc_parser.specs.ExpressionReader.{Chain}
+use Rattle.jc_parser.specs.ExpressionReader.{Selector, by_key, by_index, by_keys, by_values, Chain}
 
 abbrev pub selector_view : language.Selector → Selector
 selector_view (selectors.Get key) = by_key key

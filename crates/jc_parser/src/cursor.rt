@@ -5,12 +5,12 @@ ghost use Rattle.std.specs.Str.{all_ascii_digits};
 ghost use Rattle.jc_syntax.specs.declared.token.TokenKind.TheVariants.{Name, Number, Str};
 ghost use Rattle.jc_syntax.specs.Lexemes.{IsTokenOf};
 ghost use Rattle.jc_parser.specs.ReaderState.{MapsResult, reading_of, place, stuck, begins, has_kind, is_word, is_number_symbol, reserved, skip, take, named_at, is_at_end};
-ghost use Rattle.jc_parser.specs.ReservedWords as words;
-ghost use Rattle.jc_parser.specs.Expressions as language;
-ghost use Rattle.jc_parser.specs.Expressions.{numeral_value};
+ghost use Rattle.jc_grammar.specs.SymbolTests as words;
+ghost use Rattle.jc_grammar.specs.SymbolTests.{numeral_value};
+ghost use Rattle.jc_parser.specs.ExpressionReader as language;
 ghost use Rattle.jc_parser.specs.ExpressionReader.{index_at};
 ghost use Rattle.jc_parser.specs.ScriptReader.{is_misused as misused};
-ghost use Rattle.jc_parser.specs.Symbols.{Symbol, word, number};
+ghost use Rattle.jc_grammar.specs.Symbols.{Symbol, word, number};
 
 use crate::fault::ScenarioFault;
 use jc_rules::Text;
@@ -322,14 +322,14 @@ fn all_digits(bytes: &[u8]) -> bool
 
 /// Whether a text is one digit or more, and nothing else.
 fn is_numeral(text: &str) -> bool
-    ensures { result ≡ language.is_numeral text.now }
+    ensures { result ≡ words.is_numeral text.now }
 {
     !text.is_empty() && all_digits(text.as_bytes())
 }
 
 /// The value of digits, if it is below 2 to the 32.
 fn index_of(digits: &str) -> Option<u32>
-    requires { language.is_numeral digits.now ≡ true }
+    requires { words.is_numeral digits.now ≡ true }
     ensures { result
         ≡ (if nat_lt (numeral_value digits.now) 4294967296 then Some (numeral_value digits.now) else None) }
 {

@@ -2,13 +2,12 @@
 
 ghost use Rattle.std.specs.Prelude.{◌≡◌, ◌≢◌, ◌≤◌, IfOk, IfErr, All, length};
 ghost use Rattle.jc_syntax.specs.Lexemes.{IsTokenOf};
-ghost use Rattle.jc_parser.specs.Symbols.{lexemes};
+ghost use Rattle.jc_grammar.specs.Symbols.{lexemes};
 ghost use Rattle.jc_parser.specs.ReaderState.{MapsResult, reading_of};
-ghost use Rattle.jc_parser.specs.Events.{IsEvent, IsEventOf, IsEventFault, IsAhead, HasNoEvent, IsEventAt, IsEventFaultAt, IsCallSpelled, IsCallWellFormed, IsCallExcess};
+ghost use Rattle.jc_parser.specs.Events.{IsEvent, IsNoEvent, IsEventOf, IsEventFault, IsNoEventAhead, IsEventAt, IsEventFaultAt};
 ghost use Rattle.jc_parser.specs.EventReader.{last_name_at, sender_at, last_identifier_at, taking_at, application_at, common_action_at, action_at, any_event_at, only_event_at};
-ghost use Rattle.jc_parser.specs.Sentences.{IsStopped};
+ghost use Rattle.jc_parser.specs.Sentences.{IsAhead};
 ghost use Rattle.jc_parser.specs.Faults.{from_sentence, IsOfSentence};
-ghost use Rattle.jc_parser.specs.GrammarClaims.{IsSaidEvent, IsSaidEventFault, IsSaidOfText, IsSaidFaultOfText};
 
 use crate::cursor::Cursor;
 use crate::fault::ScenarioFault;
@@ -169,14 +168,8 @@ fn event_of(
     tokens: &[Token],
 ) -> Result<NamedEvent, ScenarioFault>
     requires { All (IsTokenOf text.now) tokens.now }
-    ensures tree { IfOk result (λ e. IsEvent version e (lexemes text.now tokens.now)) }
-    ensures fault { IfErr result (λ e. e ≢ ScenarioFault.Memory
-        → IsStopped (IsCallSpelled version) IsCallWellFormed (IsCallExcess version)
-        (reading_of text.now tokens.now) e) }
-    // The same by the language as one value.
-    ensures said { IfOk result (λ e. IsSaidEvent version (lexemes text.now tokens.now) e) }
-    ensures said_fault { IfErr result (λ e. e ≢ ScenarioFault.Memory
-        → IsSaidEventFault version (reading_of text.now tokens.now) e) }
+    ensures tree { IfOk result (λ e. IsEvent version (lexemes text.now tokens.now) e) }
+    ensures fault { IfErr result (λ e. e ≢ ScenarioFault.Memory → IsNoEvent version (reading_of text.now tokens.now) e) }
     ensures kind { IfErr result IsOfSentence }
 {
     let mut cursor = Cursor::new(text, tokens);
@@ -187,10 +180,6 @@ fn event_of(
 fn event_in(alloc: Global, version: Version, text: &str) -> Result<NamedEvent, ScenarioFault>
     ensures tree { IfOk result (λ e. IsEventOf version text.now e) }
     ensures fault { IfErr result (λ e. e ≢ ScenarioFault.Memory → IsEventFault version text.now e) }
-    // The same by the language as one value.
-    ensures said { IfOk result (λ e. IsSaidOfText (IsSaidEvent version) text.now e) }
-    ensures said_fault { IfErr result (λ e. e ≢ ScenarioFault.Memory
-        → IsSaidFaultOfText (IsSaidEventFault version) text.now e) }
     ensures kind { IfErr result IsOfSentence }
 {
     let tokens = lex(alloc, text)?;
@@ -207,10 +196,6 @@ pub fn parse_event(alloc: Global, version: Version, text: &str) -> Result<NamedE
     ensures tree { IfOk result (λ e. IsEventOf version text.now e) }
     // What is refused has this fault.
     ensures fault { IfErr result (λ e. e ≢ ParseFault.Memory → IsEventFault version text.now (from_sentence e)) }
-    // The same by the language as one value.
-    ensures said { IfOk result (λ e. IsSaidOfText (IsSaidEvent version) text.now e) }
-    ensures said_fault { IfErr result (λ e. e ≢ ParseFault.Memory
-        → IsSaidFaultOfText (IsSaidEventFault version) text.now (from_sentence e)) }
 {
     match event_in(alloc, version, text) {
         Ok(event) => Ok(event),
@@ -226,9 +211,9 @@ fn event_before(
     tokens: &[Token],
 ) -> Result<(NamedEvent, usize), ScenarioFault>
     requires { All (IsTokenOf text.now) tokens.now }
-    ensures tree { IfOk result (λ x. IsAhead version (lexemes text.now tokens.now) x.0 x.1) }
+    ensures tree { IfOk result (λ x. IsAhead (IsEvent version) (lexemes text.now tokens.now) x.0 x.1) }
     ensures fault { IfErr result (λ e. e ≢ ScenarioFault.Memory
-        → HasNoEvent version (reading_of text.now tokens.now) e) }
+        → IsNoEventAhead version (reading_of text.now tokens.now) e) }
     ensures kind { IfErr result IsOfSentence }
 {
     let mut cursor = Cursor::new(text, tokens);

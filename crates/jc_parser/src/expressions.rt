@@ -5,14 +5,11 @@ ghost use Rattle.jc_rules.specs.declared.limits.TheConstants.{MAX_SELECTORS};
 ghost use Rattle.jc_syntax.specs.Trees.{expr_of};
 ghost use Rattle.jc_syntax.specs.Lexemes.{IsTokenOf};
 ghost use Rattle.jc_parser.specs.ReaderState.{MapsResult, reading_of};
-ghost use Rattle.jc_parser.specs.Expressions.{extended, IsExpressionText, IsWellFormedExpression};
-ghost use Rattle.jc_parser.specs.ExpressionReader.{key_selector_at, index_selector_at, plain_selector_at, step_at, chain_at, doc_at, variable_at, root_at, expression_at, only_expression_at};
-ghost use Rattle.jc_parser.specs.ExpressionFaults.{IsExpressionExcess, IsExpressionOf, IsExpressionFault};
-ghost use Rattle.jc_parser.specs.Sentences.{IsStopped};
-ghost use Rattle.jc_parser.specs.Symbols.{lexemes, symbols};
+ghost use Rattle.jc_parser.specs.Expressions.{IsExpression, IsNoExpression, IsExpressionOf, IsExpressionFault};
+ghost use Rattle.jc_parser.specs.ExpressionReader.{extended, key_selector_at, index_selector_at, plain_selector_at, step_at, chain_at, doc_at, variable_at, root_at, expression_at, only_expression_at};
+ghost use Rattle.jc_grammar.specs.Symbols.{lexemes};
 ghost use Rattle.jc_parser.specs.Faults.{from_sentence, IsOfSentence};
 ghost use Rattle.jc_parser.specs.Views.{selector_view, chain_view};
-ghost use Rattle.jc_parser.specs.GrammarClaims.{IsSaidExpression, IsSaidExpressionFault, IsSaidOfText, IsSaidFaultOfText};
 
 use crate::cursor::Cursor;
 use crate::fault::ScenarioFault;
@@ -163,14 +160,8 @@ fn only_expression(alloc: Global, cursor: &mut Cursor) -> Result<Expr, ScenarioF
 /// The expression of a text, from its tokens.
 fn expression_of(alloc: Global, text: &str, tokens: &[Token]) -> Result<Expr, ScenarioFault>
     requires { All (IsTokenOf text.now) tokens.now }
-    ensures spelled { IfOk result (λ e. IsExpressionText (expr_of e) (symbols (lexemes text.now tokens.now))) }
-    ensures within { IfOk result (λ e. IsWellFormedExpression (expr_of e)) }
-    ensures fault { IfErr result (λ e. e ≢ ScenarioFault.Memory
-        → IsStopped IsExpressionText IsWellFormedExpression IsExpressionExcess (reading_of text.now tokens.now) e) }
-    // The same by the language as one value.
-    ensures said { IfOk result (λ e. IsSaidExpression (lexemes text.now tokens.now) (expr_of e)) }
-    ensures said_fault { IfErr result (λ e. e ≢ ScenarioFault.Memory
-        → IsSaidExpressionFault (reading_of text.now tokens.now) e) }
+    ensures tree { IfOk result (λ e. IsExpression (lexemes text.now tokens.now) (expr_of e)) }
+    ensures fault { IfErr result (λ e. e ≢ ScenarioFault.Memory → IsNoExpression (reading_of text.now tokens.now) e) }
     ensures kind { IfErr result IsOfSentence }
 {
     let mut cursor = Cursor::new(text, tokens);
@@ -181,10 +172,6 @@ fn expression_of(alloc: Global, text: &str, tokens: &[Token]) -> Result<Expr, Sc
 fn expression_in(alloc: Global, text: &str) -> Result<Expr, ScenarioFault>
     ensures tree { IfOk result (λ e. IsExpressionOf text.now (expr_of e)) }
     ensures fault { IfErr result (λ e. e ≢ ScenarioFault.Memory → IsExpressionFault text.now e) }
-    // The same by the language as one value.
-    ensures said { IfOk result (λ e. IsSaidOfText IsSaidExpression text.now (expr_of e)) }
-    ensures said_fault { IfErr result (λ e. e ≢ ScenarioFault.Memory
-        → IsSaidFaultOfText IsSaidExpressionFault text.now e) }
     ensures kind { IfErr result IsOfSentence }
 {
     let tokens = lex(alloc, text)?;
@@ -201,10 +188,6 @@ pub fn parse_expr(alloc: Global, text: &str) -> Result<Expr, ParseFault>
     ensures tree { IfOk result (λ e. IsExpressionOf text.now (expr_of e)) }
     // What is refused has this fault.
     ensures fault { IfErr result (λ e. e ≢ ParseFault.Memory → IsExpressionFault text.now (from_sentence e)) }
-    // The same by the language as one value.
-    ensures said { IfOk result (λ e. IsSaidOfText IsSaidExpression text.now (expr_of e)) }
-    ensures said_fault { IfErr result (λ e. e ≢ ParseFault.Memory
-        → IsSaidFaultOfText IsSaidExpressionFault text.now (from_sentence e)) }
 {
     match expression_in(alloc, text) {
         Ok(expression) => Ok(expression),

@@ -1,12 +1,10 @@
 //! Laws of the grammar, for the layers above: a text is one scenario, expression, script or event, or has one fault,
 //! and not both. What is parsed is legal.
 
-ghost use Rattle.jc_parser.specs.Laws.{OneExpression, ExpressionOrFault, ExpressionElseFault, OneExpressionFault, OneScript, ScriptOrFault, ScriptElseFault, OneScriptFault};
-ghost use Rattle.jc_parser.specs.ClosedScripts.{OneScriptAt, ScriptOrFaultAt, ScriptElseFaultAt, OneScriptFaultAt};
+ghost use Rattle.jc_parser.specs.Laws.{OneExpression, ExpressionOrFault, ExpressionElseFault, OneExpressionFault, OneScript, ScriptOrFault, ScriptElseFault, OneScriptFault, OneScriptAt, ScriptOrFaultAt, ScriptElseFaultAt, OneScriptFaultAt};
 ghost use Rattle.jc_parser.specs.EventLaws.{OneEvent, EventOrFault, EventElseFault, OneEventFault, OneEventAt, EventOrFaultAt, EventElseFaultAt, OneEventFaultAt};
 ghost use Rattle.jc_parser.specs.ScenarioLaws.{OneNamedTree, NamedTreeOrFault, NamedTreeElseFault, OneTreeFault};
 ghost use Rattle.jc_parser.specs.LegalSymbolLaws.{LegalExpressions, LegalScripts, LegalEvents, LegalScriptsAt, LegalEventsAt, LegalScenarios};
-ghost use Rattle.jc_parser.specs.GrammarLaws.{SameExpressions, SameExpressionFaults, SameScripts, SameScriptFaults, SameEvents, SameEventFaults, SameScenarios, SameScenarioFaults, OneReading};
 
 use jc_syntax::laws as lexemes;
 
@@ -206,48 +204,3 @@ pub fn legal_scenarios()
 {
     lexemes::legal_strings();
 }
-
-/// Lexemes are an expression where the language as one value says so.
-pub fn same_expressions()
-    ensures { SameExpressions }
-{}
-
-/// Lexemes have a fault as an expression where the language as one value says so.
-pub fn same_expression_faults()
-    ensures { SameExpressionFaults }
-{}
-
-/// Lexemes are a script where the language as one value says so.
-pub fn same_scripts()
-    ensures { SameScripts }
-{}
-
-/// Lexemes have a fault as a script where the language as one value says so.
-pub fn same_script_faults()
-    ensures { SameScriptFaults }
-{}
-
-/// Lexemes are an event where the language as one value says so.
-pub fn same_events()
-    ensures { SameEvents }
-{}
-
-/// Lexemes have a fault as an event where the language as one value says so.
-pub fn same_event_faults()
-    ensures { SameEventFaults }
-{}
-
-/// Lexemes are a scenario where the language as one value says so.
-pub fn same_scenarios()
-    ensures { SameScenarios }
-{}
-
-/// Lexemes have a fault as a scenario where the language as one value says so.
-pub fn same_scenario_faults()
-    ensures { SameScenarioFaults }
-{}
-
-/// The readers that the code follows read what the reader of the language as one value reads.
-pub fn one_reading()
-    ensures { OneReading }
-{}

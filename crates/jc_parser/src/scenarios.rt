@@ -4,13 +4,10 @@ ghost use Rattle.std.specs.Prelude.{◌≡◌, ◌≢◌, ◌-◌, [], IfOk, IfE
 ghost use Rattle.jc_rules.specs.declared.limits.TheConstants.{MAX_EVENTS, MAX_REPLICAS};
 ghost use Rattle.jc_syntax.specs.Lexemes.{IsTokenOf};
 ghost use Rattle.jc_syntax.specs.Trees.{cmd_of};
-ghost use Rattle.jc_parser.specs.Symbols.{lexemes};
 ghost use Rattle.jc_parser.specs.ReaderState.{MapsResult, reading_of};
-ghost use Rattle.jc_parser.specs.Scenarios.{name_of_part, IsNamedTree};
-ghost use Rattle.jc_parser.specs.ScenarioFaults.{IsTreeFault};
-ghost use Rattle.jc_parser.specs.ScenarioReader.{is_among, other_name_at, new_name_at, body_at, part_at, too_many_replicas_at, events_at, block_at, any_block_at, given_at, blocks_at, tree, rest_at, tree_at};
+ghost use Rattle.jc_parser.specs.Scenarios.{tree, IsNamedTree, IsTreeFault};
+ghost use Rattle.jc_parser.specs.ScenarioReader.{is_among, other_name_at, new_name_at, body_at, part_at, too_many_replicas_at, events_at, block_at, any_block_at, given_at, blocks_at, rest_at, tree_at};
 ghost use Rattle.jc_parser.specs.ScenarioViews.{part_view, tree_view, names_of};
-ghost use Rattle.jc_parser.specs.GrammarClaims.{IsSaidScenario, IsSaidScenarioFault};
 
 use crate::cursor::Cursor;
 use crate::events::event;
@@ -312,10 +309,6 @@ pub fn scenario_of(
     ensures tree { IfOk result (λ t. IsNamedTree (reading_of text.now tokens.now) (tree_view t)) }
     // What is refused has this fault.
     ensures fault { IfErr result (λ e. e ≢ ScenarioFault.Memory → IsTreeFault (reading_of text.now tokens.now) e) }
-    // The same by the language as one value.
-    ensures said { IfOk result (λ t. IsSaidScenario (lexemes text.now tokens.now) (tree_view t)) }
-    ensures said_fault { IfErr result (λ e. e ≢ ScenarioFault.Memory
-        → IsSaidScenarioFault (reading_of text.now tokens.now) e) }
 {
     let mut cursor = Cursor::new(text, tokens);
     whole(alloc, &mut cursor)

@@ -7,12 +7,10 @@ ghost use Rattle.jc_syntax.specs.Trees.{cmd_of, expr_of};
 ghost use Rattle.jc_syntax.specs.Lexemes.{IsTokenOf};
 ghost use Rattle.jc_parser.specs.ReaderState.{MapsResult, reading_of};
 ghost use Rattle.jc_parser.specs.ScriptReader.{any_value_at, assignment_at, binding_at, insertion_at, finish_at, update_at, command_at, too_many_commands_at, commands_at, only_script_at, closed_script_at};
-ghost use Rattle.jc_parser.specs.Scripts.{IsScriptSpelled, IsScriptWellFormed, IsScriptExcess, IsScriptOf, IsScriptFault};
-ghost use Rattle.jc_parser.specs.ClosedScripts.{IsClosedAhead, HasNoScript, IsScriptAt, IsScriptFaultAt};
-ghost use Rattle.jc_parser.specs.Sentences.{IsStopped};
-ghost use Rattle.jc_parser.specs.Symbols.{lexemes, symbols};
+ghost use Rattle.jc_parser.specs.Scripts.{IsScript, IsNoScript, IsScriptOf, IsScriptFault, IsClosedScript, IsNoScriptAhead, IsScriptAt, IsScriptFaultAt};
+ghost use Rattle.jc_parser.specs.Sentences.{IsAhead};
+ghost use Rattle.jc_grammar.specs.Symbols.{lexemes};
 ghost use Rattle.jc_parser.specs.Faults.{from_sentence, IsOfSentence};
-ghost use Rattle.jc_parser.specs.GrammarClaims.{IsSaidScript, IsSaidScriptFault, IsSaidOfText, IsSaidFaultOfText};
 
 use crate::cursor::Cursor;
 use crate::expressions::{Chain, expression, follow, root};
@@ -176,14 +174,8 @@ fn only_script(alloc: Global, cursor: &mut Cursor) -> Result<Vec<Cmd>, ScenarioF
 /// The script of a text, from its tokens.
 fn script_of(alloc: Global, text: &str, tokens: &[Token]) -> Result<Vec<Cmd>, ScenarioFault>
     requires { All (IsTokenOf text.now) tokens.now }
-    ensures spelled { IfOk result (λ s. IsScriptSpelled (map cmd_of s.items) (symbols (lexemes text.now tokens.now))) }
-    ensures within { IfOk result (λ s. IsScriptWellFormed (map cmd_of s.items)) }
-    ensures fault { IfErr result (λ e. e ≢ ScenarioFault.Memory
-        → IsStopped IsScriptSpelled IsScriptWellFormed IsScriptExcess (reading_of text.now tokens.now) e) }
-    // The same by the language as one value.
-    ensures said { IfOk result (λ s. IsSaidScript (lexemes text.now tokens.now) (map cmd_of s.items)) }
-    ensures said_fault { IfErr result (λ e. e ≢ ScenarioFault.Memory
-        → IsSaidScriptFault (reading_of text.now tokens.now) e) }
+    ensures tree { IfOk result (λ s. IsScript (lexemes text.now tokens.now) (map cmd_of s.items)) }
+    ensures fault { IfErr result (λ e. e ≢ ScenarioFault.Memory → IsNoScript (reading_of text.now tokens.now) e) }
     ensures kind { IfErr result IsOfSentence }
 {
     let mut cursor = Cursor::new(text, tokens);
@@ -194,10 +186,6 @@ fn script_of(alloc: Global, text: &str, tokens: &[Token]) -> Result<Vec<Cmd>, Sc
 fn script_in(alloc: Global, text: &str) -> Result<Vec<Cmd>, ScenarioFault>
     ensures tree { IfOk result (λ s. IsScriptOf text.now (map cmd_of s.items)) }
     ensures fault { IfErr result (λ e. e ≢ ScenarioFault.Memory → IsScriptFault text.now e) }
-    // The same by the language as one value.
-    ensures said { IfOk result (λ s. IsSaidOfText IsSaidScript text.now (map cmd_of s.items)) }
-    ensures said_fault { IfErr result (λ e. e ≢ ScenarioFault.Memory
-        → IsSaidFaultOfText IsSaidScriptFault text.now e) }
     ensures kind { IfErr result IsOfSentence }
 {
     let tokens = lex(alloc, text)?;
@@ -214,10 +202,6 @@ pub fn parse_script(alloc: Global, text: &str) -> Result<Vec<Cmd>, ParseFault>
     ensures tree { IfOk result (λ s. IsScriptOf text.now (map cmd_of s.items)) }
     // What is refused has this fault.
     ensures fault { IfErr result (λ e. e ≢ ParseFault.Memory → IsScriptFault text.now (from_sentence e)) }
-    // The same by the language as one value.
-    ensures said { IfOk result (λ s. IsSaidOfText IsSaidScript text.now (map cmd_of s.items)) }
-    ensures said_fault { IfErr result (λ e. e ≢ ParseFault.Memory
-        → IsSaidFaultOfText IsSaidScriptFault text.now (from_sentence e)) }
 {
     match script_in(alloc, text) {
         Ok(script) => Ok(script),
@@ -242,9 +226,9 @@ fn closed_before(
     tokens: &[Token],
 ) -> Result<(Vec<Cmd>, usize), ScenarioFault>
     requires { All (IsTokenOf text.now) tokens.now }
-    ensures tree { IfOk result (λ x. IsClosedAhead (lexemes text.now tokens.now) (map cmd_of x.0.items) x.1) }
+    ensures tree { IfOk result (λ x. IsAhead IsClosedScript (lexemes text.now tokens.now) (map cmd_of x.0.items) x.1) }
     ensures fewer { IfOk result (λ x. x.1 < length tokens.now) }
-    ensures fault { IfErr result (λ e. e ≢ ScenarioFault.Memory → HasNoScript (reading_of text.now tokens.now) e) }
+    ensures fault { IfErr result (λ e. e ≢ ScenarioFault.Memory → IsNoScriptAhead (reading_of text.now tokens.now) e) }
     ensures kind { IfErr result IsOfSentence }
 {
     let mut cursor = Cursor::new(text, tokens);

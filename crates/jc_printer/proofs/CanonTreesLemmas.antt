@@ -10,16 +10,15 @@ use Rattle.jc_rules.specs.declared.value.Value.{Value}
 use Rattle.jc_rules.specs.declared.value.Value.TheVariants as values
 use Rattle.jc_rules.specs.Syntax.{Expr, TheDoc, Variable, GetKey, Index, KeysOf, ValuesOf, Cmd, LetIn, SetTo, InsertAfter, DeleteAt, Yield}
 use Rattle.jc_syntax.specs.Bytes.{is_name_start, is_name_byte, is_number_byte}
-use Rattle.jc_parser.specs.Symbols.{Symbol, word, number, string, dot, open_paren, close_paren, open_brace, close_brace, open_bracket, close_bracket, semicolon, assign, equals}
+use Rattle.jc_grammar.specs.Symbols.{Symbol, word, number, string, dot, open_paren, close_paren, open_brace, close_brace, open_bracket, close_bracket, semicolon, assign, equals}
 use Rattle.jc_printer.specs.Canon.{quoted, canon_expr, canon_value, canon_cmd, canon_script}
-use Rattle.jc_parser.specs.ReservedWords.{is_reserved, get_text, IsListText}
-use Rattle.jc_parser.specs.Expressions.{index_text, IsExpressionText, HasLegalParts}
-use Rattle.jc_parser.specs.Scripts.{IsValueSpelled, IsCommandSpelled, IsCommandWellFormed}
+use Rattle.jc_parser.specs.Expressions.{HasLegalParts}
+use Rattle.jc_parser.specs.Scripts.{IsCommandWellFormed}
 use Rattle.jc_parser.specs.LegalSymbols.{IsName, IsLegalExpr, IsLegalValue, IsLegalCmd}
-use Rattle.jc_printer.proofs.NumeralsLemmas.{numeral_of, value_of_numeral, numeric_of}
+use Rattle.jc_printer.proofs.NumeralsLemmas.{numeric_of}
 use Rattle.jc_printer.proofs.PrintedSymbolsLemmas.{IsPrinted, put, spaced}
 use Rattle.jc_printer.proofs.WrittenSymbolsLemmas.{IsPartedBy, IsWritten}
-use Rattle.jc_parser.proofs.ScriptReaderLemmas.{free_leads}
+use Rattle.jc_printer.proofs.CanonSymbolsLemmas.{Spells, get_symbols, index_symbols, expr_symbols, value_symbols, cmd_symbols, joined}
 
 -- symbols of a language are written with these bytes, before what follows
 pub record PrintsAs (L : List Symbol → Type 0) (own : List ℕ) (after : List Symbol) (rest : List ℕ) : Type 0 where
@@ -53,19 +52,6 @@ keyword name start all short = (start, AllPass-from_list_all is_name_byte name a
 pub number_parts : (rest : List ℕ) → IsPartedBy is_number_byte rest → IsPartedBy is_name_byte rest
 number_parts rest h = (or_parts (is_name_byte (slice_index rest 0)) _ h).0
 
--- a name that isn't reserved is none of the words that lead
-pub record IsFree (name : List ℕ) : Type 0 where
-  pub no_let : bytes_eq name (codes "let") ≡ false
-  pub no_doc : bytes_eq name (codes "doc") ≡ false
-  pub no_yield : bytes_eq name (codes "yield") ≡ false
-
-pub free : (name : List ℕ) → is_reserved name ≡ false → IsFree name
-free name h =
-    let a = or_parts (bytes_eq name (codes "let")) _ h in
-    let b = or_parts (bytes_eq name (codes "doc")) _ a.1 in
-    let c = or_parts (bytes_eq name (codes "yield")) _ b.1 in
-    record { no_let = a.0; no_doc = b.0; no_yield = c.0 }
-
 -- a word and a dot before it
 pub dotted : (name : List ℕ) (after : List Symbol) (rest : List ℕ) → IsName name → IsPartedBy is_name_byte rest → IsPrinted after rest → IsPrinted (dot ∷ word name ∷ after) (46 ∷ (name ++ rest))
 dotted name after rest is parted p = put dot (word name ∷ after) (46 ∷ []) (name ++ rest) refl (put (word name) after name rest (refl, is, parted) p)
@@ -80,7 +66,7 @@ enclosed s after own rest w p =
 index_below : (i : ℕ) → i < 4294967296 → i < 2 ^ 64
 index_below i h = omega (arith, h)
 
-pub expression_printed : (e : Expr) (after : List Symbol) (rest : List ℕ) → IsLegalExpr e → HasLegalParts e → IsPartedBy is_name_byte rest → IsPrinted after rest → PrintsAs (IsExpressionText e) (canon_expr e) after rest
+pub expression_printed : (e : Expr) (after : List Symbol) (rest : List ℕ) → IsLegalExpr e → HasLegalParts e → IsPartedBy is_name_byte rest → IsPrinted after rest → PrintsAs (Spells (expr_symbols e)) (canon_expr e) after rest
 expression_printed TheDoc after rest legal parts parted p = record {
   text = word (codes "doc") ∷ [];
   spelled = refl;
@@ -88,32 +74,32 @@ expression_printed TheDoc after rest legal parts parted p = record {
 }
 expression_printed (Variable name) after rest legal parts parted p = record {
   text = word name ∷ [];
-  spelled = ((free name parts).no_doc, refl);
+  spelled = refl;
   printed = put (word name) after name rest (refl, legal, parted) p;
 }
 expression_printed (GetKey e key) after rest legal parts parted p =
     let step = dotted (codes "get") (open_paren ∷ string key ∷ close_paren ∷ after) (40 ∷ (quoted key ++ 41 ∷ rest)) (keyword (codes "get") refl refl (omega arith)) refl (enclosed (string key) after (quoted key) rest (refl, legal.0) p) in
-    let before = expression_printed e (get_text key ++ after) (codes ".get(" ++ (quoted key ++ (codes ")" ++ rest))) legal.1 parts refl step in
+    let before = expression_printed e (get_symbols key ++ after) (codes ".get(" ++ (quoted key ++ (codes ")" ++ rest))) legal.1 parts refl step in
     record {
-      text = before.text ++ get_text key;
-      spelled = (before.text, get_text key, before.spelled, refl, refl);
-      printed = more_printed before.text (get_text key) after _ _ (regroup_four (canon_expr e) (codes ".get(") (quoted key) (codes ")") rest) before.printed;
+      text = before.text ++ get_symbols key;
+      spelled = ap (λ (w : List Symbol). w ++ get_symbols key) before.spelled;
+      printed = more_printed before.text (get_symbols key) after _ _ (regroup_four (canon_expr e) (codes ".get(") (quoted key) (codes ")") rest) before.printed;
     }
 expression_printed (Index e i) after rest legal parts parted p =
     let small = index_below i parts.0 in
     let step = dotted (codes "idx") (open_paren ∷ number (decimal i) ∷ close_paren ∷ after) (40 ∷ (decimal i ++ 41 ∷ rest)) (keyword (codes "idx") refl refl (omega arith)) refl (enclosed (number (decimal i)) after (decimal i) rest (refl, numeric_of i small, refl) p) in
-    let before = expression_printed e (index_text (decimal i) ++ after) (codes ".idx(" ++ (decimal i ++ (codes ")" ++ rest))) legal parts.1 refl step in
+    let before = expression_printed e (index_symbols i ++ after) (codes ".idx(" ++ (decimal i ++ (codes ")" ++ rest))) legal parts.1 refl step in
     record {
-      text = before.text ++ index_text (decimal i);
-      spelled = (before.text, index_text (decimal i), before.spelled, (decimal i, numeral_of i small, value_of_numeral i small, refl), refl);
-      printed = more_printed before.text (index_text (decimal i)) after _ _ (regroup_four (canon_expr e) (codes ".idx(") (decimal i) (codes ")") rest) before.printed;
+      text = before.text ++ index_symbols i;
+      spelled = ap (λ (w : List Symbol). w ++ index_symbols i) before.spelled;
+      printed = more_printed before.text (index_symbols i) after _ _ (regroup_four (canon_expr e) (codes ".idx(") (decimal i) (codes ")") rest) before.printed;
     }
 expression_printed (KeysOf e) after rest legal parts parted p =
     let step = dotted (codes "keys") after rest (keyword (codes "keys") refl refl (omega arith)) parted p in
     let before = expression_printed e (dot ∷ word (codes "keys") ∷ after) (codes ".keys" ++ rest) legal parts refl step in
     record {
       text = before.text ++ dot ∷ word (codes "keys") ∷ [];
-      spelled = (before.text, dot ∷ word (codes "keys") ∷ [], before.spelled, refl, refl);
+      spelled = ap (λ (w : List Symbol). w ++ dot ∷ word (codes "keys") ∷ []) before.spelled;
       printed = more_printed before.text (dot ∷ word (codes "keys") ∷ []) after _ _ (append_assoc (canon_expr e) (codes ".keys") rest) before.printed;
     }
 expression_printed (ValuesOf e) after rest legal parts parted p =
@@ -121,7 +107,7 @@ expression_printed (ValuesOf e) after rest legal parts parted p =
     let before = expression_printed e (dot ∷ word (codes "values") ∷ after) (codes ".values" ++ rest) legal parts refl step in
     record {
       text = before.text ++ dot ∷ word (codes "values") ∷ [];
-      spelled = (before.text, dot ∷ word (codes "values") ∷ [], before.spelled, refl, refl);
+      spelled = ap (λ (w : List Symbol). w ++ dot ∷ word (codes "values") ∷ []) before.spelled;
       printed = more_printed before.text (dot ∷ word (codes "values") ∷ []) after _ _ (append_assoc (canon_expr e) (codes ".values") rest) before.printed;
     }
 
@@ -134,7 +120,7 @@ value_word name L after rest spelled is parted p = record {
   printed = put (word name) after name rest (refl, is, number_parts rest parted) p;
 }
 
-pub value_printed : (v : Value) (after : List Symbol) (rest : List ℕ) → IsLegalValue v → IsPartedBy is_number_byte rest → IsPrinted after rest → PrintsAs (IsValueSpelled v) (canon_value v) after rest
+pub value_printed : (v : Value) (after : List Symbol) (rest : List ℕ) → IsLegalValue v → IsPartedBy is_number_byte rest → IsPrinted after rest → PrintsAs (Spells (value_symbols v)) (canon_value v) after rest
 value_printed (values.Number text) after rest legal parted p = record {
   text = number text ∷ [];
   spelled = refl;
@@ -145,9 +131,9 @@ value_printed (values.Str content) after rest legal parted p = record {
   spelled = refl;
   printed = put (string content) after (quoted content) rest (refl, legal) p;
 }
-value_printed values.True after rest legal parted p = value_word (codes "true") (IsValueSpelled values.True) after rest refl (keyword (codes "true") refl refl (omega arith)) parted p
-value_printed values.False after rest legal parted p = value_word (codes "false") (IsValueSpelled values.False) after rest refl (keyword (codes "false") refl refl (omega arith)) parted p
-value_printed values.Null after rest legal parted p = value_word (codes "null") (IsValueSpelled values.Null) after rest refl (keyword (codes "null") refl refl (omega arith)) parted p
+value_printed values.True after rest legal parted p = value_word (codes "true") (Spells (value_symbols values.True)) after rest refl (keyword (codes "true") refl refl (omega arith)) parted p
+value_printed values.False after rest legal parted p = value_word (codes "false") (Spells (value_symbols values.False)) after rest refl (keyword (codes "false") refl refl (omega arith)) parted p
+value_printed values.Null after rest legal parted p = value_word (codes "null") (Spells (value_symbols values.Null)) after rest refl (keyword (codes "null") refl refl (omega arith)) parted p
 value_printed values.EmptyMap after rest legal parted p = record {
   text = open_brace ∷ close_brace ∷ [];
   spelled = refl;
@@ -162,8 +148,8 @@ value_printed values.EmptyList after rest legal parted p = record {
 -- ---- commands
 
 -- a keyword and a blank
-pub command_printed : (c : Cmd) (after : List Symbol) (rest : List ℕ) → IsLegalCmd c → IsCommandWellFormed c → IsPartedBy is_number_byte rest → IsPrinted after rest → PrintsAs (IsCommandSpelled c) (canon_cmd c) after rest
-command_printed Yield after rest legal formed parted p = value_word (codes "yield") (IsCommandSpelled Yield) after rest refl (keyword (codes "yield") refl refl (omega arith)) parted p
+pub command_printed : (c : Cmd) (after : List Symbol) (rest : List ℕ) → IsLegalCmd c → IsCommandWellFormed c → IsPartedBy is_number_byte rest → IsPrinted after rest → PrintsAs (Spells (cmd_symbols c)) (canon_cmd c) after rest
+command_printed Yield after rest legal formed parted p = value_word (codes "yield") (Spells (cmd_symbols Yield)) after rest refl (keyword (codes "yield") refl refl (omega arith)) parted p
 command_printed (LetIn name e) after rest legal formed parted p =
     let right = expression_printed e after rest legal.1 formed.1.parts (number_parts rest parted) p in
     let sign = put equals (right.text ++ after) (codes "=") (32 ∷ (canon_expr e ++ rest)) refl (spaced (right.text ++ after) 32 (canon_expr e ++ rest) refl right.printed) in
@@ -171,7 +157,7 @@ command_printed (LetIn name e) after rest legal formed parted p =
     let whole = put (word (codes "let")) (word name ∷ equals ∷ (right.text ++ after)) (codes "let") (32 ∷ (name ++ (codes " = " ++ (canon_expr e ++ rest)))) (refl, keyword (codes "let") refl refl (omega arith), refl) (spaced (word name ∷ equals ∷ (right.text ++ after)) 32 (name ++ (codes " = " ++ (canon_expr e ++ rest))) refl left) in
     record {
       text = word (codes "let") ∷ word name ∷ equals ∷ right.text;
-      spelled = (right.text, right.spelled, refl);
+      spelled = ap (λ (w : List Symbol). word (codes "let") ∷ word name ∷ equals ∷ w) right.spelled;
       printed = same_bytes (word (codes "let") ∷ word name ∷ equals ∷ (right.text ++ after)) _ _ (regroup_four (codes "let ") name (codes " = ") (canon_expr e) rest) whole;
     }
 command_printed (SetTo e v) after rest legal formed parted p =
@@ -180,7 +166,7 @@ command_printed (SetTo e v) after rest legal formed parted p =
     let left = expression_printed e (assign ∷ (right.text ++ after)) (codes " := " ++ (canon_value v ++ rest)) legal.0 formed.parts refl (spaced (assign ∷ (right.text ++ after)) 32 (58 ∷ 61 ∷ 32 ∷ (canon_value v ++ rest)) refl sign) in
     record {
       text = left.text ++ assign ∷ right.text;
-      spelled = (left.text, right.text, free_leads e formed.parts, left.spelled, right.spelled, refl);
+      spelled = λ i. left.spelled i ++ assign ∷ right.spelled i;
       printed = more_printed left.text (assign ∷ right.text) after _ _ (regroup (canon_expr e) (codes " := ") (canon_value v) rest) left.printed;
     }
 command_printed (InsertAfter e v) after rest legal formed parted p =
@@ -193,7 +179,7 @@ command_printed (InsertAfter e v) after rest legal formed parted p =
     let same : tail ++ after ≡ dot ∷ word (codes "insertAfter") ∷ open_paren ∷ (inner.text ++ close_paren ∷ after) = ap (λ (l : List Symbol). dot ∷ word (codes "insertAfter") ∷ open_paren ∷ l) (append_assoc inner.text (close_paren ∷ []) after) in
     record {
       text = before.text ++ tail;
-      spelled = (before.text, inner.text, free_leads e formed.parts, before.spelled, inner.spelled, refl);
+      spelled = λ i. before.spelled i ++ dot ∷ word (codes "insertAfter") ∷ open_paren ∷ (inner.spelled i ++ close_paren ∷ []);
       printed = more_printed before.text tail after _ _ (regroup_four (canon_expr e) (codes ".insertAfter(") (canon_value v) (codes ")") rest) (rw same before.printed);
     }
 command_printed (DeleteAt e) after rest legal formed parted p =
@@ -201,7 +187,7 @@ command_printed (DeleteAt e) after rest legal formed parted p =
     let before = expression_printed e (dot ∷ word (codes "delete") ∷ after) (codes ".delete" ++ rest) legal formed.parts refl step in
     record {
       text = before.text ++ dot ∷ word (codes "delete") ∷ [];
-      spelled = (before.text, free_leads e formed.parts, before.spelled, refl);
+      spelled = ap (λ (w : List Symbol). w ++ dot ∷ word (codes "delete") ∷ []) before.spelled;
       printed = more_printed before.text (dot ∷ word (codes "delete") ∷ []) after _ _ (append_assoc (canon_expr e) (codes ".delete") rest) before.printed;
     }
 
@@ -212,7 +198,7 @@ further cs = flat_map (λ d. codes "; " ++ canon_cmd d) cs
 
 pub record IsListed (cs : List Cmd) (bytes : List ℕ) : Type 0 where
   pub text : List Symbol
-  pub spelled : IsListText IsCommandSpelled cs text
+  pub spelled : Spells (joined cmd_symbols cs) text
   pub printed : IsPrinted text bytes
 
 listed : (c : Cmd) (cs : List Cmd) → All IsLegalCmd (c ∷ cs) → All IsCommandWellFormed (c ∷ cs) → IsListed (c ∷ cs) (canon_cmd c ++ further cs)
@@ -220,7 +206,7 @@ listed c [] legal formed =
     let one = command_printed c [] [] (legal 0 c (omega arith)) (formed 0 c (omega arith)) refl refl in
     record {
       text = one.text;
-      spelled = (one.text, one.spelled, inl (refl, refl));
+      spelled = one.spelled;
       printed = rw append-nil at one.printed;
     }
 listed c (d ∷ ds) legal formed =
@@ -229,7 +215,7 @@ listed c (d ∷ ds) legal formed =
     let one = command_printed c (semicolon ∷ more.text) (59 ∷ 32 ∷ (canon_cmd d ++ further ds)) (legal 0 c (omega arith)) (formed 0 c (omega arith)) refl parted in
     record {
       text = one.text ++ semicolon ∷ more.text;
-      spelled = (one.text, one.spelled, inr (more.text, refl, more.spelled));
+      spelled = λ i. one.spelled i ++ semicolon ∷ more.spelled i;
       printed = one.printed;
     }
 

@@ -8,3 +8,6 @@ mod PushedTextsLemmas
 pub mod QuotedLemmas
 pub mod CanonTreesLemmas
 pub mod WrittenSymbolsLemmas
+pub mod CanonSymbolsLemmas
+pub mod WrittenTreesLemmas
+pub mod WrittenEventsLemmas

@@ -10,7 +10,7 @@ use Rattle.std.proofs.lemmas.Int.Digits.{first_digits_of}
 use Rattle.std.proofs.lemmas.List.Sums.{AllPass-from_list_all}
 use Rattle.jc_syntax.specs.Numbers.{IsDigits, IsWhole}
 use Rattle.jc_parser.specs.LegalSymbols.{IsNumeric}
-use Rattle.jc_parser.specs.Expressions.{is_numeral, numeral_value}
+use Rattle.jc_grammar.specs.SymbolTests.{is_numeral, numeral_value}
 use Rattle.jc_parser.proofs.ExpressionLoopsLemmas.{own_digits}
 
 pub numeral_of : (n : ℕ) → n < 2 ^ 64 → is_numeral (decimal n) ≡ true

@@ -6,7 +6,7 @@ use Rattle.std.proofs.lemmas.List.{get_or-drop}
 use Rattle.jc_syntax.specs.declared.token.Token.{Token}
 use Rattle.jc_syntax.specs.Bytes.{is_blank_byte}
 use Rattle.jc_syntax.specs.Lexemes.{after_blanks, AreTokens, AreTokensOf}
-use Rattle.jc_parser.specs.Symbols.{Symbol, lexemes, symbols}
+use Rattle.jc_grammar.specs.Symbols.{Symbol, lexemes, symbols}
 use Rattle.jc_printer.proofs.PrefixLemmas.{left_after}
 use Rattle.jc_printer.proofs.WrittenSymbolsLemmas.{IsPartedBy, IsWritten, run_is, written_is}
 

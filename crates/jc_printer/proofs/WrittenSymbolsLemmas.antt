@@ -13,7 +13,7 @@ use Rattle.jc_syntax.specs.Bytes.{is_blank_byte, is_name_start, is_name_byte, is
 use Rattle.jc_syntax.specs.Numbers.{IsNumber}
 use Rattle.jc_syntax.specs.Lexemes.{kind_of_byte, LexemeEndsAt, token_limit, IsLexeme, token_bytes, token_content}
 use Rattle.jc_syntax.proofs.StringsContentLemmas.{string_content}
-use Rattle.jc_parser.specs.Symbols.{Symbol, word, number, string, dot, open_paren, close_paren, open_brace, close_brace, open_bracket, close_bracket, comma, semicolon, assign, equals, symbol_of}
+use Rattle.jc_grammar.specs.Symbols.{Symbol, word, number, string, dot, open_paren, close_paren, open_brace, close_brace, open_bracket, close_bracket, comma, semicolon, assign, equals, symbol_of}
 use Rattle.jc_printer.specs.Canon.{quoted}
 use Rattle.jc_parser.specs.LegalSymbols.{IsName, IsNumeric, IsContent}
 use Rattle.jc_printer.proofs.PrefixLemmas.{byte_there, byte_here, stands}

@@ -7,8 +7,7 @@ use Rattle.jc_rules.specs.Syntax.{Expr, Cmd}
 use Rattle.jc_rules.specs.Version.{Allows}
 use Rattle.jc_rules.specs.declared.limits.TheConstants.{MAX_TEXT}
 use Rattle.jc_syntax.specs.declared.tree.NamedEvent.{NamedEvent}
-use Rattle.jc_parser.specs.Expressions.{IsWellFormedExpression}
-use Rattle.jc_parser.specs.ExpressionFaults.{IsExpressionOf}
+use Rattle.jc_parser.specs.Expressions.{IsWellFormedExpression, IsExpressionOf}
 use Rattle.jc_parser.specs.Scripts.{IsScriptWellFormed, IsScriptOf}
 use Rattle.jc_parser.specs.Events.{call_of, IsEventOf}
 use Rattle.jc_printer.specs.Canon.{canon_expr, canon_script, canon_event, AreNamed}

@@ -3,7 +3,7 @@ use Rattle.std.proofs.Common.{◌≡◌, ℕ, List, [], ◌∷◌, ◌++◌, Boo
 use Rattle.std.specs.List.{list_all}
 use Rattle.std.proofs.lemmas.Bool.{and_parts}
 use Rattle.jc_syntax.specs.Bytes.{is_blank_byte, is_name_byte, is_number_byte}
-use Rattle.jc_parser.specs.Symbols.{Symbol, word, number, string, dot, open_paren, close_paren, open_brace, close_brace, open_bracket, close_bracket, comma, semicolon, assign, equals}
+use Rattle.jc_grammar.specs.Symbols.{Symbol, word, number, string, dot, open_paren, close_paren, open_brace, close_brace, open_bracket, close_bracket, comma, semicolon, assign, equals}
 use Rattle.jc_printer.proofs.WrittenSymbolsLemmas.{IsPartedBy, IsWritten}
 use Rattle.jc_printer.proofs.PrintedSymbolsLemmas.{IsPrinted, spaced}
 use Rattle.jc_printer.proofs.CanonTreesLemmas.{number_parts}

@@ -11,7 +11,7 @@ use Rattle.std.proofs.lemmas.List.Sums.{list_all-from_AllPass}
 use Rattle.std.proofs.lemmas.Str.{IsUtf8-append, IsUtf8-nil, IsUtf8-from_ascii, encode_ascii, inside_one, IsUtf8-encode}
 use lib.Utf8.{encode, encodes, scalar, scalars}
 use Rattle.jc_syntax.specs.Bytes.{is_blank_byte, is_name_byte, is_number_byte}
-use Rattle.jc_parser.specs.Symbols.{Symbol, word, number, string, dot, open_paren, close_paren, open_brace, close_brace, open_bracket, close_bracket, comma, semicolon, assign, equals}
+use Rattle.jc_grammar.specs.Symbols.{Symbol, word, number, string, dot, open_paren, close_paren, open_brace, close_brace, open_bracket, close_bracket, comma, semicolon, assign, equals}
 use Rattle.jc_printer.specs.Canon.{escape_byte, escape, quoted}
 use Rattle.jc_printer.proofs.NumberBytesLemmas.{number_bytes}
 use Rattle.jc_printer.proofs.WrittenSymbolsLemmas.{IsWritten}

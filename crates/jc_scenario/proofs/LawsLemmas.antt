@@ -90,7 +90,6 @@ pub well_formed_scenarios : LegalScenarios → ScenariosAreWellFormed
 well_formed_scenarios legal bytes s a =
     let each : All (IsTokenOf bytes) a.tokens = each_token bytes 0 a.lexed.1 a.tokens a.lexed.0 a.lexed.2 in
     let own = legal bytes a.tokens a.scenario.tree a.valid each a.scenario.named in
-    let (parts, given, schedule, some, replicas, led, events, text) = a.scenario.named.spelled in
-    well_formed (tree_of_named a.scenario.tree) s given schedule a.scenario.of_tree some led events own.0
+    well_formed (tree_of_named a.scenario.tree) s a.scenario.of_tree own.0
     (All-weaker IsLegalPart (λ p. IsName p.name) (λ p l. l.0) a.scenario.tree.parts own.1.0)
     (All-weaker IsLegalPart (λ p. All IsLegalCmd p.script) (λ p l. l.1) a.scenario.tree.parts own.1.0)

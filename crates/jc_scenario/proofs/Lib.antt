@@ -4,7 +4,8 @@ pub mod CanonReplicasLemmas
 pub mod CanonJoinLemmas
 pub mod CanonLemmas
 pub mod CanonUtf8Lemmas
-pub mod NamePlacesLemmas
+pub mod ScenarioSymbolsLemmas
+pub mod WrittenScenariosLemmas
 pub mod ReadBackLemmas
 pub mod UniqueLemmas
 pub mod WellFormedLemmas

@@ -2,31 +2,36 @@
 use Rattle.std.proofs.Common.{◌≡◌, ◌≢◌, ℕ, ◌≤◌, List, [], ◌∷◌, ◌++◌, map, length, true, false, inl, inr, refl, sym, ap, subst, ◌∙◌, arith, append_assoc, append-nil}
 use Rattle.std.specs.Prelude.{codes, flat_map, All}
 use Rattle.std.specs.Char.{is_ascii_digit}
-use Rattle.std.specs.List.{AllPairs}
-use Rattle.std.proofs.lemmas.Bool.{and_from}
+use Rattle.std.specs.List.{AllByRecursion}
+use Rattle.std.specs.Str.{bytes_eq}
+use Rattle.std.specs.declared.cmp.Ordering.TheVariants.{Less}
+use Rattle.std.proofs.lemmas.Bool.{and_from, cases_Bool}
 use Rattle.std.proofs.lemmas.List.{length-map}
-use Rattle.std.proofs.lemmas.List.Elements.{All-nil, All-cons, All-head, All-tail, All-map, All-weaker}
+use Rattle.std.proofs.lemmas.List.Elements.{All-head, All-tail}
 use Rattle.std.proofs.lemmas.List.Sorted.{IsPermutation-refl}
 use Rattle.std.proofs.lemmas.List.Sums.{AllPass-from_list_all}
-use Rattle.jc_rules.specs.declared.operation.Event.{Event}
-use Rattle.jc_rules.specs.declared.operation.Event.TheVariants.{Exec, Send, Recv, Take, Apply, Done}
+use Rattle.std.proofs.lemmas.Slice.Eq.{bytes_eq-Decides}
 use Rattle.jc_rules.specs.declared.version.Version.{Version}
 use Rattle.jc_rules.specs.declared.version.Version.TheVariants.{One, Two}
+use Rattle.jc_rules.specs.Entries.{IsRising}
+use Rattle.jc_rules.specs.Order.{name_cmp}
 use Rattle.jc_rules.specs.Syntax.{Cmd}
-use Rattle.jc_parser.specs.Symbols.{Symbol, word, number, symbols}
-use Rattle.jc_parser.specs.ReservedWords.{is_reserved}
+use Rattle.jc_grammar.specs.Symbols.{Symbol, word, number, lexemes}
+use Rattle.jc_grammar.specs.SymbolTests.{is_reserved}
+use Rattle.jc_grammar.specs.Classes.{is_in}
 use Rattle.jc_parser.specs.Scripts.{IsScriptWellFormed}
-use Rattle.jc_parser.specs.Events.{IsCallWellFormed}
-use Rattle.jc_parser.specs.LegalSymbols.{IsName, IsNumeric, IsLegalCmd, call_by, IsCounterBelow}
-use Rattle.jc_parser.specs.ReaderState.{Reading, reading_of}
-use Rattle.jc_parser.specs.Scenarios.{ScenarioTree, tree_of_named, name_of_part, version_text, header, ArePartsWithin, IsTreeSpelled, IsTreeWithin}
+use Rattle.jc_parser.specs.LegalSymbols.{IsName, IsNumeric, IsLegalCmd}
+use Rattle.jc_parser.specs.GrammarTrees.{scenario_of_tree}
+use Rattle.jc_parser.specs.Scenarios.{ScenarioTree, name_of_part}
 use Rattle.jc_printer.proofs.PrintedSymbolsLemmas.{IsPrinted, put, spaced, printed_text}
 use Rattle.jc_printer.proofs.CanonTreesLemmas.{keyword}
-use Rattle.jc_scenario.specs.WellFormed.{Scenario, parts_of, IsWellFormedScenario, IsOfTree, AreScenario, IsScenario}
+use Rattle.jc_printer.proofs.CanonSymbolsLemmas.{Spells}
+use Rattle.jc_scenario.specs.WellFormed.{Scenario, parts_of, IsWellFormedScenario, IsOfTree, IsScenario}
 use Rattle.jc_scenario.specs.Canon.{header_text, canon_part, canon_given, canon_schedule, canon, canon_one}
-use Rattle.jc_scenario.proofs.NamesDifferLemmas.{names-parts, rising_apart}
+use Rattle.jc_scenario.proofs.NamesDifferLemmas.{names-parts, never_less}
 use Rattle.jc_scenario.proofs.CanonLemmas.{AreLegalParts, parts_printed, given_printed, schedule_printed}
-use Rattle.jc_scenario.proofs.NamePlacesLemmas.{numbered_tree, placed_tree}
+use Rattle.jc_scenario.proofs.ScenarioSymbolsLemmas.{parts_symbols, given_symbols, schedule_symbols, version_text, header}
+use Rattle.jc_scenario.proofs.WrittenScenariosLemmas.{AreNewParts, numbered_tree, scenario_written}
 use Rattle.jc_scenario.proofs.CanonUtf8Lemmas.{printed_utf8}
 
 -- ---- names and scripts side by side
@@ -41,48 +46,33 @@ legal_parts (n ∷ ns) (s ∷ ss) legal commands formed = (
   legal_parts ns ss (All-tail IsName n ns legal) (All-tail (λ s. All IsLegalCmd s) s ss commands) (All-tail IsScriptWellFormed s ss formed),
 )
 
-each_name : (P : List ℕ → Type 0) (ns : List (List ℕ)) (ss : List (List Cmd)) → All P ns → All (λ p. P p.name) (parts_of ns ss)
-each_name P [] ss all = All-nil (λ p. P p.name)
-each_name P (n ∷ ns) [] all = All-nil (λ p. P p.name)
-each_name P (n ∷ ns) (s ∷ ss) all = All-cons (λ p. P p.name) (record { name = n; script = s }) (parts_of ns ss) (All-head P n ns all) (each_name P ns ss (All-tail P n ns all))
+-- replicas of a well-formed scenario are new, each behind those before it
+others_rise : (n : List ℕ) (names ns : List (List ℕ)) → AllByRecursion (λ m. is_in m names ≡ false) ns → AllByRecursion (λ m. name_cmp n m ≡ Less) ns → AllByRecursion (λ m. is_in m (n ∷ names) ≡ false) ns
+others_rise n names [] other rise = tt
+others_rise n names (m ∷ ms) (new, other) (less, rise) = (
+  elim (cases_Bool (bytes_eq m n)) [
+    | inl same ↦ absurd (never_less n (subst (λ (l : List ℕ). name_cmp n l ≡ Less) ((bytes_eq-Decides m n).0 same) less))
+    | inr differ ↦ rw (differ, new) refl
+  ],
+  others_rise n names ms other rise,
+)
 
-each_script : (P : List Cmd → Type 0) (ns : List (List ℕ)) (ss : List (List Cmd)) → All P ss → All (λ p. P p.script) (parts_of ns ss)
-each_script P [] ss all = All-nil (λ p. P p.script)
-each_script P (n ∷ ns) [] all = All-nil (λ p. P p.script)
-each_script P (n ∷ ns) (s ∷ ss) all = All-cons (λ p. P p.script) (record { name = n; script = s }) (parts_of ns ss) (All-head P s ss all) (each_script P ns ss (All-tail P s ss all))
+new_parts : (names ns : List (List ℕ)) (ss : List (List Cmd)) → AllByRecursion (λ m. is_in m names ≡ false) ns → IsRising name_cmp ns → All (λ n. is_reserved n ≡ false) ns → All IsScriptWellFormed ss → AreNewParts names (parts_of ns ss)
+new_parts names [] ss other rising free formed = tt
+new_parts names (n ∷ ns) [] other rising free formed = tt
+new_parts names (n ∷ ns) (s ∷ ss) other rising free formed = (
+  All-head (λ n. is_reserved n ≡ false) n ns free,
+  other.0,
+  All-head IsScriptWellFormed s ss formed,
+  new_parts (n ∷ names) ns ss (others_rise n names ns other.1 rising.0) rising.1 (All-tail (λ n. is_reserved n ≡ false) n ns free) (All-tail IsScriptWellFormed s ss formed),
+)
 
--- ---- within the limits
-
-abbrev tree_for : Scenario → ScenarioTree
-tree_for s = numbered_tree s.version s.names (parts_of s.names s.scripts) s.given s.schedule
-
-call_small : (names : List (List ℕ)) (e : Event) → IsCounterBelow e → IsCallWellFormed (call_by names e)
-call_small names (Exec p) small = tt
-call_small names (Send p) small = tt
-call_small names (Recv p q) small = tt
-call_small names (Take p q i) small = small
-call_small names (Apply p i) small = small
-call_small names (Done p) small = tt
+none_known : (ns : List (List ℕ)) → AllByRecursion (λ m. is_in m [] ≡ false) ns
+none_known [] = tt
+none_known (n ∷ ns) = (refl, none_known ns)
 
 parts_count : (s : Scenario) → IsWellFormedScenario s → length (parts_of s.names s.scripts) ≡ length s.names
 parts_count s w = sym (length-map (parts_of s.names s.scripts) name_of_part) ∙ ap length (names-parts s.names s.scripts w.each)
-
-parts_within : (s : Scenario) → IsWellFormedScenario s → ArePartsWithin (parts_of s.names s.scripts)
-parts_within s w = record {
-  free = each_name (λ n. is_reserved n ≡ false) s.names s.scripts w.free;
-  apart = subst (AllPairs (λ a b. a ≢ b)) (sym (names-parts s.names s.scripts w.each)) (rising_apart s.names w.rising);
-  few = omega (arith, parts_count s w, w.few);
-  scripts = each_script IsScriptWellFormed s.names s.scripts w.formed;
-}
-
-tree_within : (s : Scenario) → IsWellFormedScenario s → IsTreeWithin (tree_for s)
-tree_within s w = record {
-  parts = parts_within s w;
-  few_given = omega (arith, length-map s.given (call_by s.names), w.given_short);
-  given = All-map IsCallWellFormed (call_by s.names) s.given (All-weaker IsCounterBelow (λ e. IsCallWellFormed (call_by s.names e)) (call_small s.names) s.given w.given_counters);
-  few = omega (arith, length-map s.schedule (call_by s.names), w.short);
-  calls = All-map IsCallWellFormed (call_by s.names) s.schedule (All-weaker IsCounterBelow (λ e. IsCallWellFormed (call_by s.names e)) (call_small s.names) s.schedule w.counters);
-}
 
 some_parts : (s : Scenario) → IsWellFormedScenario s → parts_of s.names s.scripts ≢ []
 some_parts s w none = w.some (sym (names-parts s.names s.scripts w.each) ∙ ap (map name_of_part) none)
@@ -112,7 +102,7 @@ version_number Two = digit_numeric 50 refl (λ nought. absurd (omega (arith, nou
 -- symbols of a scenario, and its text
 record IsWhole (s : Scenario) : Type 0 where
   text : List Symbol
-  spelled : IsTreeSpelled (tree_for s) text
+  spelled : Spells (header s.version ++ (parts_symbols (parts_of s.names s.scripts) ++ (given_symbols s.version s.names s.given ++ schedule_symbols s.names s.schedule))) text
   printed : IsPrinted text (canon s)
 
 header_bytes : (v : Version) (parts given schedule : List ℕ) → ((header_text v ++ parts) ++ given) ++ schedule ≡ codes "jsoncrdt" ++ 32 ∷ (version_text v ++ 10 ∷ (parts ++ (given ++ schedule)))
@@ -126,18 +116,18 @@ header_printed v ss bs p =
 
 whole : (s : Scenario) → IsWellFormedScenario s → IsWhole s
 whole s w =
-    let schedule = schedule_printed s.version s.names s.schedule w.legal w.known w.counters w.allowed in
-    let given = given_printed s.version s.names s.given schedule.text (canon_schedule s.names s.schedule) w.legal w.given_known w.given_counters w.first_given schedule.printed in
+    let schedule = schedule_printed s.names s.schedule w.legal w.known w.counters in
+    let given = given_printed s.version s.names s.given schedule.text (canon_schedule s.names s.schedule) w.legal w.given_known w.given_counters schedule.printed in
     let parts = parts_printed (parts_of s.names s.scripts) (given.text ++ schedule.text) (canon_given s.version s.names s.given ++ canon_schedule s.names s.schedule) (legal_parts s.names s.scripts w.legal w.commands w.formed) given.printed in
     record {
       text = header s.version ++ (parts.text ++ (given.text ++ schedule.text));
-      spelled = (parts.text, given.text, schedule.text, some_parts s w, parts.spelled, given.spelled, schedule.spelled, refl);
+      spelled = λ i. header s.version ++ (parts.spelled i ++ (given.spelled i ++ schedule.spelled i));
       printed =
           subst (IsPrinted (header s.version ++ (parts.text ++ (given.text ++ schedule.text)))) (sym (header_bytes s.version (flat_map canon_part (parts_of s.names s.scripts)) (canon_given s.version s.names s.given) (canon_schedule s.names s.schedule)))
           (header_printed s.version (parts.text ++ (given.text ++ schedule.text)) (flat_map canon_part (parts_of s.names s.scripts) ++ (canon_given s.version s.names s.given ++ canon_schedule s.names s.schedule)) parts.printed);
     }
 
-of_tree : (s : Scenario) → IsWellFormedScenario s → IsOfTree (tree_for s) s
+of_tree : (s : Scenario) → IsWellFormedScenario s → IsOfTree (numbered_tree s.version s.names (parts_of s.names s.scripts) s.given s.schedule) s
 of_tree s w = record {
   version = refl;
   rising = w.rising;
@@ -149,26 +139,26 @@ of_tree s w = record {
   called = refl;
 }
 
--- these lexemes are the scenario, and each name in its events has its place
-placed_scenario : (s : Scenario) → IsWellFormedScenario s → (r : Reading) → IsTreeSpelled (tree_for s) (symbols r.left) → AreScenario r s
-placed_scenario s w r spelled =
-    let placed = placed_tree s.version s.names (parts_of s.names s.scripts) s.given s.schedule r.left w.given_counters w.counters spelled in
-    let same : tree_of_named placed.tree ≡ tree_for s = placed.same in
-    record {
-      tree = placed.tree;
-      named = record { spelled = subst (λ (t : ScenarioTree). IsTreeSpelled t (symbols r.left)) (sym same) spelled; within = subst IsTreeWithin (sym same) (tree_within s w); placed = placed.placed };
-      of_tree = subst (λ (t : ScenarioTree). IsOfTree t s) (sym same) (of_tree s w);
-    }
-
 pub reads_back : (s : Scenario) → IsWellFormedScenario s → length (canon s) ≤ 8388608 → IsScenario (canon s) s
 reads_back s w short =
     let own = whole s w in
     let text = printed_text own.text (canon s) own.printed short in
+    let read = scenario_written s.version s.names (parts_of s.names s.scripts) s.given s.schedule (lexemes (canon s) text.tokens) (record {
+      some = some_parts s w;
+      new = new_parts [] s.names s.scripts (none_known s.names) w.rising w.free w.formed;
+      few = omega (arith, parts_count s w, w.few);
+      first_given = w.first_given;
+      given_short = w.given_short;
+      given_counters = w.given_counters;
+      short = w.short;
+      counters = w.counters;
+      allowed = w.allowed;
+    }) (text.spell ∙ own.spelled) in
     record {
       valid = printed_utf8 own.text (canon s) own.printed;
       tokens = text.tokens;
       lexed = text.lexed;
-      scenario = placed_scenario s w (reading_of (canon s) text.tokens) (rw text.spell own.spelled);
+      scenario = record { tree = scenario_of_tree read.tree; named = record { tree = read.tree; text = read.text; is = refl }; of_tree = subst (λ (t : ScenarioTree). IsOfTree t s) read.is (of_tree s w) };
     }
 
 -- ---- version 1

@@ -10,8 +10,7 @@ use Rattle.jc_parser.specs.declared.fault.ScenarioFault.{ScenarioFault}
 use Rattle.jc_parser.specs.declared.fault.ScenarioFault.TheVariants.{TextTooLong, NotUtf8, UnknownReplica}
 use Rattle.jc_parser.specs.Faults.{from_lexer}
 use Rattle.jc_parser.specs.ReaderState.{Reading, reading_of}
-use Rattle.jc_parser.specs.Scenarios.{NamedTree, name_of_part, IsNamedTree}
-use Rattle.jc_parser.specs.ScenarioFaults.{IsTreeFault}
+use Rattle.jc_parser.specs.Scenarios.{NamedTree, name_of_part, IsNamedTree, IsTreeFault}
 use Rattle.jc_scenario.specs.Resolved.{all_names_in, IsFirstStranger}
 
 -- These lexemes are a scenario, but for names in its events that no replica has. The first such name is at this offset;

@@ -12,7 +12,7 @@ use Rattle.jc_rules.specs.declared.limits.TheConstants.{MAX_EVENTS, MAX_REPLICAS
 use Rattle.jc_syntax.specs.declared.token.Token.{Token}
 use Rattle.jc_syntax.specs.Lexemes.{AreTokensOf}
 use Rattle.jc_parser.specs.ReaderState.{Reading, reading_of}
-use Rattle.jc_parser.specs.ReservedWords.{is_reserved}
+use Rattle.jc_grammar.specs.SymbolTests.{is_reserved}
 use Rattle.jc_parser.specs.Scripts.{IsScriptWellFormed}
 use Rattle.jc_parser.specs.LegalSymbols.{IsName, IsLegalCmd, call_by, IsCounterBelow}
 use Rattle.jc_parser.specs.Scenarios.{Part, ScenarioTree, NamedTree, tree_of_named, IsNamedTree}

@@ -10,7 +10,7 @@ use Rattle.jc_parser.specs.Events.{IsEventFault}
 use Rattle.jc_parser.specs.Faults.{fault_refusal, fault_offset, from_sentence}
 use Rattle.jc_session.specs.Answers.{IsFaultLine, IsMisspelled, faulty}
 
-is_told : (fault : ScenarioFault) (refusal : Refusal) → fault_refusal fault ≡ Some refusal → fault ≢ S.Memory
+pub is_told : (fault : ScenarioFault) (refusal : Refusal) → fault_refusal fault ≡ Some refusal → fault ≢ S.Memory
 is_told fault refusal is same = let none : None ≡ Some refusal = sym (ap fault_refusal same) ∙ is in cc
 
 -- want of memory has no line

@@ -5,7 +5,6 @@ use Rattle.std.specs.Str.Lossy.{utf8_valid_len}
 use Rattle.jc_rules.specs.declared.refusal.Refusal.{Refusal}
 use Rattle.jc_rules.specs.declared.refusal.Refusal.TheVariants as F
 use Rattle.jc_rules.specs.declared.version.Version.{Version}
-use Rattle.jc_rules.specs.declared.version.Version.TheVariants.{One, Two}
 use Rattle.jc_syntax.specs.declared.fault.LexFault.{LexFault}
 use Rattle.jc_syntax.specs.declared.fault.LexFault.TheVariants as L
 use Rattle.jc_syntax.specs.declared.token.TokenKind.{TokenKind}
@@ -14,17 +13,14 @@ use Rattle.jc_syntax.specs.Strings.{escape_at, piece_at, pair_at, unit_at, short
 use Rattle.jc_syntax.specs.Lexemes.{kind_at, IsMalformed, IsLexFault, IsFaultOf}
 use Rattle.jc_parser.specs.declared.fault.ScenarioFault.{ScenarioFault}
 use Rattle.jc_parser.specs.declared.fault.ScenarioFault.TheVariants as S
-use Rattle.jc_parser.specs.Events.{IsCallExcess, IsEventFault}
+use Rattle.jc_grammar.specs.Guards.{TextFault}
+use Rattle.jc_parser.specs.Events.{IsEventFault}
+use Rattle.jc_parser.specs.Sentences.{IsTextFault}
 use Rattle.jc_parser.specs.Faults.{fault_refusal, fault_offset, from_lexer}
-use Rattle.jc_parser.specs.ExpressionFaults.{IsExpressionExcess}
-use Rattle.jc_parser.specs.ReaderState.{Reading, reading_of, stuck_at}
-use Rattle.jc_parser.specs.Scripts.{IsNextExcess, IsScriptExcess}
-use Rattle.jc_parser.specs.Symbols.{Symbol, Lexeme, symbols}
-use Rattle.jc_parser.specs.Scenarios.{Part, given_head, schedule_head}
-use Rattle.jc_parser.specs.ScenarioFaults.{misfit_fault, IsNameFault, IsEventExcess, IsBlockExcess, IsGivenExcess, IsScheduleExcess, IsExcess, IsTreeFault}
 use Rattle.jc_dump.specs.Texts.{refused_text}
 use Rattle.jc_scenario.specs.Faults.{IsFault}
 use Rattle.jc_session.specs.Answers.{IsFaultLine}
+use Rattle.jc_session.proofs.FaultLinesLemmas.{is_told}
 
 -- ---- lines
 
@@ -127,79 +123,21 @@ from_lexer_told L.Memory h e = h refl
 lexed_told : (text : List ℕ) (lexical : LexFault) (fault : ScenarioFault) → IsFaultOf text lexical → fault ≡ from_lexer lexical → fault ≢ S.Memory
 lexed_told text lexical fault is same e = from_lexer_told lexical (lexical_told text lexical is) (sym same ∙ e)
 
--- ---- sentences
+-- ---- lexemes
 
-stuck_told : (stop : ℕ) (after : List Lexeme) → stuck_at stop after ≢ S.Memory
-stuck_told stop [] e = cc
-stuck_told stop (x ∷ xs) e = cc
-
-call_told : (version : Version) (fault : ScenarioFault) (xs : List Symbol) (after : List Lexeme) → IsCallExcess version fault xs after → fault ≢ S.Memory
-call_told version fault xs after h e = subst (λ (f : ScenarioFault). IsCallExcess version f xs after) e h
-
-expression_told : (fault : ScenarioFault) (xs : List Symbol) (after : List Lexeme) → IsExpressionExcess fault xs after → fault ≢ S.Memory
-expression_told fault xs after h e = subst (λ (f : ScenarioFault). IsExpressionExcess f xs after) e h
-
-next_told : (fault : ScenarioFault) (xs : List Symbol) (after : List Lexeme) → IsNextExcess fault xs after → fault ≢ S.Memory
-next_told fault xs after h e = subst (λ (f : ScenarioFault). IsNextExcess f xs after) e h
-
-script_told : (fault : ScenarioFault) (xs : List Symbol) (after : List Lexeme) → IsScriptExcess fault xs after → fault ≢ S.Memory
-script_told fault xs after (inl h) = next_told fault xs after h
-script_told fault xs after (inr (inl h)) = expression_told fault h.expression after h.excess
-script_told fault xs after (inr (inr h)) = expression_told fault (h.first ∷ h.expression) after h.excess
+-- the fault of lexemes has a refusal
+misfit_told : (fault : ScenarioFault) (own : TextFault) → IsTextFault fault own → fault ≢ S.Memory
+misfit_told fault own (refusal, offset) = is_told fault own.refusal refusal
 
 -- the fault of a text that is no event
 pub event_told : (version : Version) (text : List ℕ) (fault : ScenarioFault) → IsEventFault version text fault → fault ≢ S.Memory
 event_told version text fault (inl (lexical, is, same)) = lexed_told text lexical fault is same
-event_told version text fault (inr (tokens, are, stopped)) =
-    elim stopped.stops [
-      | inl out ↦ λ e. stuck_told (length text) stopped.after (sym out.is ∙ e)
-      | inr excess ↦ call_told version fault (symbols stopped.before) stopped.after excess
-    ]
-
--- ---- scenarios
-
-misfit_told : (xs : List Symbol) (stop : ℕ) (after : List Lexeme) → misfit_fault xs stop after ≢ S.Memory
-misfit_told [] stop after e = cc
-misfit_told (a ∷ []) stop after e = cc
-misfit_told (a ∷ b ∷ []) stop after e = cc
-misfit_told (a ∷ b ∷ c ∷ xs) stop after e = stuck_told stop after e
-
-name_told : (parts : List Part) (name : List ℕ) (place : ℕ) (fault : ScenarioFault) → IsNameFault parts name place fault → fault ≢ S.Memory
-name_told parts name place fault (inl (reserved, is)) = λ e. (let no : S.ReservedName place ≡ S.Memory = sym is ∙ e in cc)
-name_told parts name place fault (inr (free, inl (same, is))) = λ e. (let no : S.SameName place ≡ S.Memory = sym is ∙ e in cc)
-name_told parts name place fault (inr (free, inr (new, full, is))) = λ e. (let no : S.TooManyReplicas place ≡ S.Memory = sym is ∙ e in cc)
-
-one_event_told : (version : Version) (n : ℕ) (fault : ScenarioFault) (xs : List Symbol) (after : List Lexeme) → IsEventExcess version n fault xs after → fault ≢ S.Memory
-one_event_told version n fault xs after (inl h) = λ e. (let no : S.TooManyEvents h.2.place ≡ S.Memory = sym h.7 ∙ e in cc)
-one_event_told version n fault xs after (inr (few, h)) = call_told version fault xs after h
-
-block_told : (head : List Symbol) (version : Version) (fault : ScenarioFault) (xs : List Symbol) (after : List Lexeme) → IsBlockExcess head version fault xs after → fault ≢ S.Memory
-block_told head version fault xs after h = one_event_told version (length h.calls) fault h.event after h.excess
-
-given_told : (version : Version) (fault : ScenarioFault) (xs : List Symbol) (after : List Lexeme) → IsGivenExcess version fault xs after → fault ≢ S.Memory
-given_told One fault xs after h = absurd h
-given_told Two fault xs after h = block_told given_head Two fault xs after h
-
-events_told : (version : Version) (fault : ScenarioFault) (xs : List Symbol) (after : List Lexeme) → IsGivenExcess version fault xs after ⊎ IsScheduleExcess version fault xs after → fault ≢ S.Memory
-events_told version fault xs after (inl h) = given_told version fault xs after h
-events_told version fault xs after (inr h) = block_told schedule_head version fault h.schedule after h.excess
-
-excess_told : (fault : ScenarioFault) (xs : List Symbol) (after : List Lexeme) → IsExcess fault xs after → fault ≢ S.Memory
-excess_told fault xs after (inl (next, rest, is, h)) = name_told h.parts h.name next.place fault h.which
-excess_told fault xs after (inr (inl h)) = script_told fault h.script after h.excess
-excess_told fault xs after (inr (inr h)) = events_told h.version fault h.blocks after h.excess
-
-tree_told : (r : Reading) (fault : ScenarioFault) → IsTreeFault r fault → fault ≢ S.Memory
-tree_told r fault h =
-    elim h.stops [
-      | inl out ↦ λ e. misfit_told (symbols h.before) r.stop h.after (sym out.is ∙ e)
-      | inr excess ↦ excess_told fault (symbols h.before) h.after excess
-    ]
+event_told version text fault (inr (tokens, are, (own, is, told))) = misfit_told fault own told
 
 -- the fault of bytes that are no scenario
 pub fault_told : (bytes : List ℕ) (fault : ScenarioFault) → IsFault bytes fault → fault ≢ S.Memory
 fault_told bytes fault (inl (long, is)) = λ e. (let no : S.TextTooLong 8388608 ≡ S.Memory = sym is ∙ e in cc)
 fault_told bytes fault (inr (short, inl (other, is))) = λ e. (let no : S.NotUtf8 (utf8_valid_len bytes) ≡ S.Memory = sym is ∙ e in cc)
 fault_told bytes fault (inr (short, inr (valid, inl (lexical, is, same)))) = lexed_told bytes lexical fault is same
-fault_told bytes fault (inr (short, inr (valid, inr (tokens, are, inl h)))) = tree_told (reading_of bytes tokens) fault h
+fault_told bytes fault (inr (short, inr (valid, inr (tokens, are, inl (own, is, told))))) = misfit_told fault own told
 fault_told bytes fault (inr (short, inr (valid, inr (tokens, are, inr h)))) = λ e. (let no : S.UnknownReplica h.place ≡ S.Memory = sym h.is ∙ e in cc)

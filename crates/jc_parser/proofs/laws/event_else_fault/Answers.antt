@@ -1,5 +1,8 @@
-use Rattle.jc_parser.proofs.FaultsDecideLemmas.{event_else_fault}
+use Rattle.jc_parser.specs.Events.{IsEvent, IsNoEvent}
+use Rattle.jc_parser.specs.EventReader.{only_event_at}
+use Rattle.jc_parser.proofs.GrammarEventsLemmas.{exactly}
+use Rattle.jc_parser.proofs.TextLawsLemmas.{some_of_text}
 use Rattle.jc_parser.proofs.laws.event_else_fault.Goals as goal
 
 pub returns : goal.returns
-returns c = event_else_fault c.tokens_else_fault.ensures
+returns c = λ v. some_of_text (IsEvent v) (IsNoEvent v) (only_event_at v) (exactly v) c.tokens_else_fault.ensures

@@ -1,5 +1,8 @@
-use Rattle.jc_parser.proofs.EventLawsLemmas.{event_or_fault_of_text}
+use Rattle.jc_parser.specs.Events.{IsEvent, IsNoEvent}
+use Rattle.jc_parser.specs.EventReader.{only_event_at}
+use Rattle.jc_parser.proofs.GrammarEventsLemmas.{exactly}
+use Rattle.jc_parser.proofs.TextLawsLemmas.{no_fault_of_text}
 use Rattle.jc_parser.proofs.laws.event_or_fault.Goals as goal
 
 pub returns : goal.returns
-returns c = event_or_fault_of_text c.one_list_of_tokens.ensures c.tokens_or_fault.ensures
+returns c = λ v. no_fault_of_text (IsEvent v) (IsNoEvent v) (only_event_at v) (exactly v) c.one_list_of_tokens.ensures c.tokens_or_fault.ensures

@@ -1,4 +1,4 @@
-use Rattle.jc_parser.proofs.LegalTreesLemmas.{events_at_legal}
+use Rattle.jc_parser.proofs.LegalScenariosLemmas.{events_at_legal}
 use Rattle.jc_parser.proofs.laws.legal_events_at.Goals as goal
 
 pub returns : goal.returns

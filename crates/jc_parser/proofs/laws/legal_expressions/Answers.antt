@@ -1,4 +1,4 @@
-use Rattle.jc_parser.proofs.LegalTreesLemmas.{expressions_legal}
+use Rattle.jc_parser.proofs.LegalScenariosLemmas.{expressions_legal}
 use Rattle.jc_parser.proofs.laws.legal_expressions.Goals as goal
 
 pub returns : goal.returns

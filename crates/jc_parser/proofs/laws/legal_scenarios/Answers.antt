@@ -1,4 +1,4 @@
-use Rattle.jc_parser.proofs.LegalTreesLemmas.{scenarios_legal}
+use Rattle.jc_parser.proofs.LegalScenariosLemmas.{scenarios_legal}
 use Rattle.jc_parser.proofs.laws.legal_scenarios.Goals as goal
 
 pub returns : goal.returns

@@ -1,4 +1,4 @@
-use Rattle.jc_parser.proofs.LegalTreesLemmas.{scripts_legal}
+use Rattle.jc_parser.proofs.LegalScenariosLemmas.{scripts_legal}
 use Rattle.jc_parser.proofs.laws.legal_scripts.Goals as goal
 
 pub returns : goal.returns

@@ -1,5 +1,5 @@
-use Rattle.jc_parser.proofs.EventLawsLemmas.{one_event_fault_of_tokens}
+use Rattle.jc_parser.proofs.AmongTokensLemmas as own
 use Rattle.jc_parser.proofs.laws.one_event_fault_at.Goals as goal
 
 pub returns : goal.returns
-returns c = one_event_fault_of_tokens
+returns c = own.one_event_fault_at

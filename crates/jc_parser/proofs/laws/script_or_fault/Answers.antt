@@ -1,9 +1,8 @@
-use Rattle.jc_parser.specs.Scripts.{IsScriptSpelled, IsScriptWellFormed, IsScriptExcess}
-use Rattle.jc_parser.specs.ScriptReader.{script_at}
-use Rattle.jc_parser.proofs.ScriptLimitsLemmas.{has_limits}
-use Rattle.jc_parser.proofs.ScriptsReadLemmas.{reads_spelled}
-use Rattle.jc_parser.proofs.SentenceLawsLemmas.{no_fault_of_text}
+use Rattle.jc_parser.specs.Scripts.{IsScript, IsNoScript}
+use Rattle.jc_parser.specs.ScriptReader.{only_script_at}
+use Rattle.jc_parser.proofs.GrammarScriptsLemmas.{exactly}
+use Rattle.jc_parser.proofs.TextLawsLemmas.{no_fault_of_text}
 use Rattle.jc_parser.proofs.laws.script_or_fault.Goals as goal
 
 pub returns : goal.returns
-returns c = no_fault_of_text IsScriptSpelled IsScriptWellFormed IsScriptExcess script_at reads_spelled has_limits c.one_list_of_tokens.ensures c.tokens_or_fault.ensures
+returns c = no_fault_of_text IsScript IsNoScript only_script_at exactly c.one_list_of_tokens.ensures c.tokens_or_fault.ensures

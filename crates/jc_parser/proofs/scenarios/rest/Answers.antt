@@ -5,7 +5,7 @@ use Rattle.std.specs.Prelude.{codes}
 use Rattle.jc_parser.specs.ReaderState.{is_word}
 use Rattle.jc_parser.specs.ScenarioReader.{part_at, tail_at}
 use Rattle.jc_parser.specs.ScenarioViews.{part_view, names_of}
-use Rattle.jc_parser.proofs.ScenarioPrefixLemmas.{then_parts}
+use Rattle.jc_parser.proofs.ScenarioLoopsLemmas.{then_parts}
 use Rattle.jc_parser.proofs.ScenarioLoopsLemmas.{pushed, names_pushed, first_fails, first_read, replicas_full, replicas_fail, replicas_next, replicas_done, replicas_end}
 use Rattle.jc_parser.proofs.scenarios.rest.Goals as goal
 

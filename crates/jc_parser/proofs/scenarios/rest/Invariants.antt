@@ -1,7 +1,7 @@
 use Rattle.std.proofs.Common.{◌≡◌, map}
 use Rattle.jc_parser.specs.ScenarioReader.{tail_at, rest_at}
 use Rattle.jc_parser.specs.ScenarioViews.{part_view, names_of}
-use Rattle.jc_parser.proofs.ScenarioPrefixLemmas.{then_parts}
+use Rattle.jc_parser.proofs.ScenarioLoopsLemmas.{then_parts}
 use Rattle.jc_parser.proofs.scenarios.rest.Given as goal
 
 -- the replicas so far, and what is to come

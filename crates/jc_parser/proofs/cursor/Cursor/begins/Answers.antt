@@ -3,7 +3,7 @@ use Rattle.jc_syntax.specs.declared.token.Token.{Token}
 use Rattle.jc_syntax.specs.declared.token.TokenKind.{TokenKind}
 use Rattle.jc_syntax.specs.declared.token.TokenKind.TheVariants.{Name}
 use Rattle.jc_syntax.specs.Lexemes.{token_bytes, token_content}
-use Rattle.jc_parser.specs.Symbols.{lexemes}
+use Rattle.jc_grammar.specs.Symbols.{lexemes}
 use Rattle.jc_parser.specs.ReaderState.{begins_with, has_kind, same_kind, begins, Reading}
 use Rattle.jc_parser.proofs.SymbolTestsLemmas.{kind_again}
 use Rattle.jc_parser.proofs.cursor.Cursor.begins.Goals as goal

@@ -1,5 +1,5 @@
 use Rattle.std.proofs.Common.{sym, ◌∙◌}
-use Rattle.jc_parser.specs.Expressions.{is_selector}
+use Rattle.jc_parser.specs.ExpressionReader.{is_selector}
 use Rattle.jc_parser.proofs.FirstTokensLemmas.{no_selector}
 use Rattle.jc_parser.proofs.cursor.Cursor.begins_selector.Goals as goal
 
