@@ -359,8 +359,9 @@ impl Debugger {
         None
     }
 
-    /// Returns whether the breakpoint names the position.
-    fn names(&self, b: Break) -> bool
+    /// Whether the breakpoint names the position, also where none is set. At the start only a position's does, since no
+    /// event led there. It takes no memory.
+    pub fn names(&self, b: Break) -> bool
         ensures { IsTrue result ↔ Names (start_of self.now) self.now.schedule b (length self.now.traces) }
     {
         match b {

@@ -1,5 +1,6 @@
 -- That a tree is the next one after another by an operation, and the statements of the crate's laws (`laws`).
 use Rattle.std.specs.Prelude.{◌≡◌, ℕ, List, ◌++◌, true, false, not, ◌&&◌, ◌||◌, is_some, Contains}
+use Rattle.std.specs.List.{AllByRecursion}
 use Rattle.jc_rules.specs.declared.id.Id.{Id}
 use Rattle.jc_rules.specs.declared.key.Key.{Key}
 use Rattle.jc_rules.specs.declared.key.Tagged.{Tagged}
@@ -11,6 +12,7 @@ use Rattle.jc_rules.specs.Order.{same_id}
 use Rattle.jc_rules.specs.Ids.{has_id}
 use Rattle.jc_rules.specs.Context.{Context}
 use Rattle.jc_rules.specs.Derivation.{Operate, ToContext}
+use Rattle.jc_rules.specs.Paths.{HasContext}
 use Rattle.jc_rules.specs.Refused.{IsAnswered}
 use Rattle.jc_rules.specs.State.{State}
 use Rattle.jc_rules.specs.Step.{Step}
@@ -24,7 +26,8 @@ use Rattle.jc_meaning.specs.Seen.{seen, ids_at, value_seen_at}
 use Rattle.jc_meaning.specs.Meaning.{Means}
 use Rattle.jc_meaning.specs.ClearingEffects.{in_key}
 use Rattle.jc_meaning.specs.Laws.{ComesNext}
-use Rattle.jc_effects.specs.Difference.{Differences, IsDifference, IsSameAt}
+use Rattle.jc_effects.specs.Difference.{Differences, IsDifference, IsSameAt, IsSameFrom}
+use Rattle.jc_effects.specs.Places.{differs_at}
 
 -- The operation leads from the one tree to the other, and the first one is what the operations mean that were applied
 -- before it.
@@ -107,6 +110,17 @@ OneDifference = (c d : Context) (x y : Differences) → IsDifference c d x → I
 -- difference says that a tag is gone, or that a value is another one under its identifier.
 abbrev pub SomeDifference : Type 0
 SomeDifference = (o : Op) (c d : Context) → IsNextTree o c d → (x : Differences) × IsDifference c d x
+
+-- Where a difference says that nothing differs at a key of the context at a path of maps and lists, or below it,
+-- everything is the same there and below.
+abbrev pub SameWhereNoneDiffers : Type 0
+SameWhereNoneDiffers =
+    (c d : Context) (x : Differences)
+    → IsDifference c d x
+    → (P : List Tagged) (k : Key)
+    → AllByRecursion HasContext P
+    → differs_at P k x ≡ false
+    → IsSameFrom k (seen P c) (seen P d)
 
 -- ---- events
 

@@ -2,3 +2,4 @@ pub mod Difference
 pub mod EffectsJson
 pub mod Laws
 pub mod Parts
+pub mod Places

@@ -1,5 +1,6 @@
 -- What the private functions read, keep and return, on the way to a difference.
 use Rattle.std.specs.Prelude.{◌≡◌, ℕ, codes, List, [], ◌∷◌, ◌++◌, true, false, not, ◌&&◌, cond, filter, Option, Some, None, is_some}
+use Rattle.std.specs.Borrow.{Bor}
 use Rattle.std.specs.List.{AllByRecursion}
 use Rattle.std.specs.declared.cmp.Ordering.TheVariants.{Less}
 use Rattle.json.specs.Json.{Items, no_items, item, object, string}
@@ -56,6 +57,11 @@ own_seen k o = record {
 abbrev pub differences_of : Effects → Differences
 differences_of Nothing = no_difference
 differences_of (Place' k o p m q l s r) = difference k (own_seen k o) (differences_of m) (differences_of l) (differences_of r)
+
+-- what is there, if anything is
+abbrev pub or_nothing : Option (Bor Effects) → Differences
+or_nothing None = no_difference
+or_nothing (Some x) = differences_of x.now
 
 -- ---- reading
 

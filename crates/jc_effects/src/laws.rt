@@ -1,6 +1,6 @@
 //! Laws of differences, of one operation and of the events of a run. Each function does nothing: its contract is the law.
 
-ghost use Rattle.jc_effects.specs.Laws.{NothingElsewhere, LossesGoDown, EffectsOfOne, OneDifference, SomeDifference, EventsChange, EventsApplyOne, OthersChangeNothing, StoredOpsChange};
+ghost use Rattle.jc_effects.specs.Laws.{NothingElsewhere, LossesGoDown, EffectsOfOne, OneDifference, SomeDifference, SameWhereNoneDiffers, EventsChange, EventsApplyOne, OthersChangeNothing, StoredOpsChange};
 
 /// Away from an operation, and in another list than that into which it inserts, nothing differs.
 pub fn nothing_elsewhere()
@@ -25,6 +25,11 @@ pub fn one_difference()
 /// Where an operation leads from the one tree to the other, they have a difference.
 pub fn some_difference()
     ensures { SomeDifference }
+{}
+
+/// Where a difference says that nothing differs at a place or below it, everything is the same there and below.
+pub fn same_where_none_differs()
+    ensures { SameWhereNoneDiffers }
 {}
 
 /// In each network that is reached from a start, an event that applies an operation leads to the next tree by it.

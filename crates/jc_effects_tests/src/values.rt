@@ -1,8 +1,8 @@
 //! Effects as values.
 
 use crate::networks::effects_of_last;
-use jc_effects::{Effects, OwnEffects, Tags};
-use jc_rules::{Id, Key, Value};
+use jc_effects::{Effects, OwnEffects, Tags, differs_at};
+use jc_rules::{Id, Key, Tagged, Value};
 use jc_scenario::read;
 use std::alloc::Global;
 use std::process::Abort;
@@ -61,11 +61,27 @@ fn is_in_list(effects: &Effects) -> bool {
     }
 }
 
+/// Whether something differs at the element under the tagged key, or below it.
+fn differs_under(effects: &Effects, tagged: Tagged) -> bool {
+    differs_at(effects, [tagged].as_slice(), &Key::Elem(SECOND))
+}
+
+/// Whether something differs at or below the document, and at the element of its list alone.
+fn differs_there_alone(effects: &Effects) -> bool {
+    differs_at(effects, &[], &Key::Doc)
+        && !differs_at(effects, &[], &Key::Elem(SECOND))
+        && differs_under(effects, Tagged::ListT(Key::Doc))
+        && !differs_under(effects, Tagged::MapT(Key::Doc))
+        && !differs_under(effects, Tagged::RegT(Key::Doc))
+        && !differs_under(effects, Tagged::ListT(Key::Head))
+}
+
 fn is_deletion(rt: &impl Abort, alloc: Global) -> Result<(), Fail> {
     let scenario = read(alloc, DELETION.as_bytes())?;
     let effects = effects_of_last(rt, alloc, &scenario)?;
     assert!(rt; !effects.is_nothing());
     assert!(rt; is_in_list(&effects));
+    assert!(rt; differs_there_alone(&effects));
     Ok(())
 }
 

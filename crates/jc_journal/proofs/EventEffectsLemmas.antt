@@ -1,8 +1,8 @@
 -- About EventLine (AreEffects): the operation of an event leads from its replica's tree to the next one. `event_effects`
 -- uses it.
-use Rattle.std.proofs.Common.{◌≡◌, ℕ, List, Bool, true, false, Option, Some, None, refl, sym, ◌∙◌, ap, subst}
+use Rattle.std.proofs.Common.{◌≡◌, ◌≤◌, ℕ, List, length, slice_get, Bool, true, false, Option, Some, None, refl, sym, ◌∙◌, ap, subst}
 use Rattle.std.specs.Option.{option_map}
-use Rattle.std.proofs.lemmas.Option.{same_Some}
+use Rattle.std.proofs.lemmas.Option.{same_Some, slice_get_past}
 use Rattle.jc_rules.specs.declared.operation.Event.{Event}
 use Rattle.jc_rules.specs.declared.operation.Event.TheVariants as E
 use Rattle.jc_rules.specs.declared.operation.Op.{Op}
@@ -15,6 +15,7 @@ use Rattle.jc_vectors.specs.StoredStates.{stored_op}
 use Rattle.jc_replica.specs.ReplicaHistory.{ReplicaHistory}
 use Rattle.jc_network.specs.Laws.{IsReached}
 use Rattle.jc_network.specs.Steps.{HasReplica}
+use Rattle.jc_network.proofs.MembersLemmas.{set_there}
 use Rattle.jc_effects.specs.Difference.{Differences, IsDifference}
 use Rattle.jc_effects.specs.Laws.{IsNextTree, IsChangedBy}
 use Rattle.jc_effects.proofs.OneLemmas.{one_difference}
@@ -76,6 +77,24 @@ none_tells (Some o) c d e h = absurd (no_none (stored_op o) (sym e))
 pub kept_op : (event : Event) (before : Before) (old new : List State) (rows : List (Rule × ℕ)) (replica : ReplicaHistory) → (s : Step old event new rows) → IsNoted event old before → HasReplica new (replica_of event) replica → noted_op event before replica.history.now ≡ option_map stored_op (event_op event s.before s.after)
 kept_op event before old new rows replica s noted has =
     ap (noted_op event before) (kept_after event old new rows replica s has) ∙ (parts_of_step event before old new rows s noted).op
+
+same_id : (found : Option Op) → option_map (λ (o : Op). o.id) (option_map stored_op found) ≡ option_map (λ (o : Op). o.id) found
+same_id None = refl
+same_id (Some o) = refl
+
+-- it is kept by its identifier
+pub kept_id : (event : Event) (before : Before) (old new : List State) (rows : List (Rule × ℕ)) (replica : ReplicaHistory) (kept : Option Op) → (s : Step old event new rows) → IsNoted event old before → HasReplica new (replica_of event) replica → kept ≡ noted_op event before replica.history.now
+    → option_map (λ (o : Op). o.id) kept ≡ option_map (λ (o : Op). o.id) (event_op event s.before s.after)
+kept_id event before old new rows replica kept s noted has e =
+    ap (option_map (λ (o : Op). o.id)) (e ∙ kept_op event before old new rows replica s noted has) ∙ same_id (event_op event s.before s.after)
+
+-- an event's replica is there after it
+pub not_gone : (event : Event) (old new : List State) (rows : List (Rule × ℕ)) → Step old event new rows → length new ≤ replica_of event → ⊥
+not_gone event old new rows s past =
+    let p = replica_of event in
+    let now : slice_get new p ≡ Some s.after = ap (λ (N : List State). slice_get N p) s.is_new ∙ set_there old p s.before s.after s.is_there in
+    let none : None ≡ Some s.after = sym (slice_get_past new p past) ∙ now in
+    cc
 
 -- the trees of the replica before and after it
 pub tree_was : (event : Event) (old new : List State) (rows : List (Rule × ℕ)) (replica : ReplicaHistory) → (s : Step old event new rows) → HasReplica old (replica_of event) replica → replica.history.now.tree ≡ s.before.tree

@@ -17,7 +17,6 @@ use Rattle.jc_rules.specs.Refusals.{refusal_name}
 use Rattle.jc_rules.specs.ReplicaNames.{name_at}
 use Rattle.jc_rules.specs.State.{State}
 use Rattle.jc_rules.specs.Table.{op_of}
-use Rattle.jc_rules.specs.Trace.{Rows}
 use Rattle.jc_rules.specs.VersionVectors.{greatest_of}
 use Rattle.jc_replica.specs.Operations.{identifiers}
 use Rattle.jc_network.specs.declared.fault.Stuck.{Stuck}
@@ -48,9 +47,9 @@ abbrev pub member_tokens : List NamedJson → List Token
 member_tokens [] = []
 member_tokens (e ∷ es) = T.key e.0 ∷ (json_tokens e.1 ++ member_tokens es)
 
--- the rules of a trace, where there is one
-abbrev pub rows_of : Option (Bor Rows) → Option (List (Rule × ℕ))
-rows_of rules = option_map (λ t. t.now.rows) rules
+-- the rows of a trace, where they are told
+abbrev pub rows_of : Option (Bor (List (Rule × ℕ))) → Option (List (Rule × ℕ))
+rows_of rules = option_map (λ rows. rows.now) rules
 
 -- what differs, where it is known
 abbrev pub differences_in : Option Effects → Option Differences

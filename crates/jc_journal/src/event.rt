@@ -1,6 +1,6 @@
 //! The line of an event that was made: the crate's main call.
 
-ghost use Rattle.std.specs.Prelude.{◌≡◌, ◌≤◌, ◌∷◌, [], ℕ, List, decimal, IfOk, OnOk, length, option_copied};
+ghost use Rattle.std.specs.Prelude.{◌≡◌, ◌≤◌, ◌∷◌, [], ℕ, List, decimal, IfOk, OnOk, length, option_copied, option_map};
 ghost use Rattle.json.specs.Token as T;
 ghost use Rattle.json.specs.Tree.{items_tokens};
 ghost use Rattle.jc_rules.specs.declared.limits.TheConstants.{MAX_REPLICAS};
@@ -10,7 +10,7 @@ ghost use Rattle.jc_rules.specs.Step.{Network as AnyNetwork, StepIn};
 ghost use Rattle.jc_printer.specs.Canon.{AreNamed};
 ghost use Rattle.jc_json.specs.Gains.{Gains};
 ghost use Rattle.jc_journal.specs.Before.{IsNoted};
-ghost use Rattle.jc_journal.specs.EventLine.{sender_member, new_member, op_member, effects_member, rule_items, rules_member, members_line, event_line};
+ghost use Rattle.jc_journal.specs.EventLine.{event_op, sender_member, new_member, op_member, effects_member, rule_items, rules_member, members_line, event_line};
 ghost use Rattle.jc_journal.specs.Parts.{member_tokens, rows_of, differences_at, noted_command, noted_new, noted_op, noted_members};
 
 use crate::before::Before;
@@ -24,7 +24,7 @@ use jc_effects::{Effects, write_effects};
 use jc_json::write_ids;
 use jc_network::Net;
 use jc_replica::Replica;
-use jc_rules::{Event, Op, Rule, Text, Trace, name_at};
+use jc_rules::{Event, Id, Op, Rule, Text, name_at};
 use jc_tree::ArenaTree;
 use json::Writer;
 use std::alloc::{AllocError, Global};
@@ -44,7 +44,7 @@ pub struct NumberedEvent {
 struct Told<'a> {
     numbered: &'a NumberedEvent,
     before: &'a Before,
-    rules: Option<&'a Trace>,
+    rules: Option<&'a [(Rule, u64)]>,
     effects: Option<&'a Effects>,
 }
 
@@ -108,6 +108,19 @@ pub(crate) fn op_of<'a>(
     }
 }
 
+/// The identifier of the operation that the event made or applied, where it has one. The event led to the network, and
+/// `before` is what `Before::of` noted of the network before it. It takes no memory.
+pub fn event_op_id(net: &Net, event: &Event, before: &Before) -> Option<Id>
+    ensures { (old : AnyNetwork) (rows : List (AnyRule × ℕ))
+        → (made : StepIn old event.now net.now.history.now rows)
+        → IsNoted event.now old.states before.now
+        → result ≡ option_map (λ o. o.id) (event_op event.now made.step.before made.step.after) }
+{
+    let replica = net.replica(event.replica())?;
+    let op = op_of(event, before, replica)?;
+    Some(op.id)
+}
+
 /// Writes an operation as the member `op`, if there is one.
 fn write_op_member(
     alloc: Global,
@@ -159,18 +172,18 @@ fn write_rule(rule: Rule, depth: u64, out: &mut Writer) -> Result<(), AllocError
 }
 
 /// Writes the rules of a trace as a list.
-fn write_rows(rules: &Trace, out: &mut Writer) -> Result<(), AllocError>
-    ensures { OnOk result (Gains out.old out.new (T.begin_array ∷ items_tokens (rule_items rules.now.rows))) }
+fn write_rows(rules: &[(Rule, u64)], out: &mut Writer) -> Result<(), AllocError>
+    ensures { OnOk result (Gains out.old out.new (T.begin_array ∷ items_tokens (rule_items rules.now))) }
 {
     out.begin_array()?;
-    for (rule, depth) in rules.rows() {
+    for (rule, depth) in rules {
         write_rule(*rule, *depth, out)?;
     }
     out.end_array()
 }
 
 /// Writes the rules of the event, where they are asked for.
-fn write_rules(rules: Option<&Trace>, out: &mut Writer) -> Result<(), AllocError>
+fn write_rules(rules: Option<&[(Rule, u64)]>, out: &mut Writer) -> Result<(), AllocError>
     ensures { OnOk result (Gains out.old out.new (member_tokens (rules_member (rows_of rules.entry)))) }
 {
     match rules {
@@ -236,7 +249,7 @@ pub fn event_line(
     net: &Net,
     numbered: &NumberedEvent,
     before: &Before,
-    rules: Option<&Trace>,
+    rules: Option<&[(Rule, u64)]>,
     effects: Option<&Effects>,
 ) -> Result<Vec<u8>, AllocError>
     requires { AreNamed numbered.now.event (length net.now.names) }

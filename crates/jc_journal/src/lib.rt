@@ -12,5 +12,5 @@ mod stuck;
 
 pub use before::Before;
 pub use effects::event_effects;
-pub use event::{NumberedEvent, event_line};
+pub use event::{NumberedEvent, event_line, event_op_id};
 pub use stuck::stuck_line;

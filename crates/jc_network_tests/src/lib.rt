@@ -29,6 +29,8 @@ mod nets;
 #[cfg(test)]
 mod networks;
 #[cfg(test)]
+mod places;
+#[cfg(test)]
 mod runs;
 #[cfg(test)]
 mod sessions;

@@ -8,6 +8,7 @@ use crate::nets::{after, has_dumps, run};
 use crate::networks::{
     all_is_told, counts_none_given, missing_replicas, takes_100_000, takes_are_refused,
 };
+use crate::places::places_are_shown;
 use crate::undoing::there_and_back;
 use jc_choice::Phase;
 use jc_network::Net;
@@ -26,6 +27,7 @@ pub enum Turn<'a> {
     NoneGivenIsCounted,
     ToldIsMade,
     Documents,
+    Places,
     /// A replica chooses in a phase: the event, and its phase after it.
     Choice(u16, Phase, Option<(Event, Phase)>),
     /// The events lead there and back, and there once more.
@@ -47,6 +49,7 @@ fn take(rt: &impl Abort, alloc: Global, net: &mut Net, turn: &Turn) -> Result<()
         Turn::NoneGivenIsCounted => counts_none_given(rt, net),
         Turn::ToldIsMade => all_is_told(rt, net),
         Turn::Documents => documents_are_shown(rt, alloc, net),
+        Turn::Places => places_are_shown(rt, alloc, net)?,
         Turn::Choice(p, phase, want) => chooses(rt, net, *p, *phase, want),
         Turn::ThereAndBack(events) => there_and_back(rt, alloc, net, events)?,
         Turn::Meaning(p, want) => is_meant_as(rt, alloc, net, *p, want)?,

@@ -6,3 +6,4 @@ mod print;
 mod quote;
 
 pub use print::{print_event, print_expr, print_script, print_value, push_cmd};
+pub use quote::push_quoted;

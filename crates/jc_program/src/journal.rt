@@ -22,7 +22,7 @@ use crate::run::{RunFault, send_bytes};
 use jc_io::Sink;
 use jc_journal::{Before, NumberedEvent, event_effects, event_line, stuck_line};
 use jc_network::{Net, StepFault, Stuck};
-use jc_rules::{Event, Trace};
+use jc_rules::{Event, Rule, Trace};
 use jc_scenario::{Scenario, copy_names, copy_scripts};
 use std::alloc::{AllocError, Global};
 
@@ -35,10 +35,10 @@ struct Networks {
 }
 
 /// The rules of an event, where they are asked for.
-fn rows_asked(rules: &Trace, trace: bool) -> Option<&Trace>
+fn rows_asked(rules: &Trace, trace: bool) -> Option<&[(Rule, u64)]>
     ensures { rows_of result ≡ rows_asked trace rules.now.rows }
 {
-    if trace { Some(rules) } else { None }
+    if trace { Some(rules.rows()) } else { None }
 }
 
 /// The line of an event that led to the network, with what it changed where there is a network behind.
@@ -47,7 +47,7 @@ fn made_line(
     networks: &Networks,
     numbered: &NumberedEvent,
     before: &Before,
-    rules: Option<&Trace>,
+    rules: Option<&[(Rule, u64)]>,
 ) -> Result<Vec<u8>, AllocError>
     requires named { AreNamed numbered.now.event (length networks.now.net.names) }
     requires made { IfSome networks.now.behind (λ c. (rows : List (AnyRule × ℕ))

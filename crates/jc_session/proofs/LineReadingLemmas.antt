@@ -1,5 +1,5 @@
 -- Of `LineReading`: a line that is being read, byte by byte.
-use Rattle.std.proofs.Common.{◌≡◌, ◌≢◌, ℕ, ◌+◌, ◌<◌, ◌≤◌, List, [], ◌∷◌, ◌++◌, length, take, Option, None, Some, Bool, true, false, nat_lt, refl, ap, sym, subst, ◌∙◌, arith, length-append, append-nil, Result, Ok, Err, OnErr}
+use Rattle.std.proofs.Common.{◌≡◌, ◌≢◌, ℕ, ◌+◌, ◌≤◌, List, [], ◌∷◌, ◌++◌, length, take, Option, None, Some, Bool, true, false, nat_lt, refl, ap, sym, subst, ◌∙◌, arith, length-append, append-nil, Result, Ok, Err, OnErr}
 use Rattle.std.proofs.lemmas.Bool.Decides.{nat_tests}
 use Rattle.std.specs.Io.KnownBytes.{Consumes, IsAtEnd, prepend_known}
 use Rattle.std.proofs.KnownBytes.{Consumes-nil, Consumes-trans}
@@ -9,34 +9,33 @@ use Rattle.jc_session.specs.Lines.{Lacks}
 use Rattle.jc_session.specs.LineReading.{ReadStopsAt, LineRead}
 use Rattle.jc_session.proofs.AheadLemmas.{kept_more}
 
-pub reads_none : (old : Option (List ℕ)) (bytes : ℕ) → bytes ≤ 67108864 → LineRead old old [] false bytes bytes
-reads_none old bytes h = record { raw = []; no_lf = tt; gone = Consumes-nil old; kept_is = refl; some_is = refl; bytes_are = omega arith; within = h }
+pub reads_none : (old : Option (List ℕ)) (room : ℕ) → LineRead old old [] false room room
+reads_none old room = record { raw = []; no_lf = tt; gone = Consumes-nil old; kept_is = refl; some_is = refl; room_is = omega arith }
 
 longer : (raw : List ℕ) (b : ℕ) → true ≡ nat_lt 0 (length (raw ++ b ∷ []))
 longer raw b = let n = length-append raw (b ∷ []) in grind (arith, nat_tests, n)
 
-pub reads_more : (old now next : Option (List ℕ)) (kept new : List ℕ) (some : Bool) (before bytes b : ℕ) → LineRead old now kept some before bytes → Consumes now next (b ∷ []) → b ≢ 10 → new ≡ take 4097 (kept ++ b ∷ []) → bytes < 67108864
-    → LineRead old next new true before (bytes + 1)
-reads_more old now next kept new some before bytes b r h ne e lt = record {
+pub reads_more : (old now next : Option (List ℕ)) (kept new : List ℕ) (some : Bool) (most room less b : ℕ) → LineRead old now kept some most room → Consumes now next (b ∷ []) → b ≢ 10 → new ≡ take 4097 (kept ++ b ∷ []) → less + 1 ≡ room
+    → LineRead old next new true most less
+reads_more old now next kept new some most room less b r h ne e one = record {
   raw = r.raw ++ b ∷ [];
   no_lf = All-push (λ x. x ≢ 10) r.raw b r.no_lf ne;
   gone = Consumes-trans old now next r.raw (b ∷ []) r.gone h;
   kept_is = kept_more 4097 r.raw b kept new r.kept_is e;
   some_is = longer r.raw b;
-  bytes_are = let n = length-append r.raw (b ∷ []) in let m = r.bytes_are in omega (arith, n, m);
-  within = omega arith;
+  room_is = let n = length-append r.raw (b ∷ []) in let m = r.room_is in omega (arith, n, m, one);
 }
 
 -- some bytes of the line were read
-pub some_read : (old now : Option (List ℕ)) (kept : List ℕ) (before bytes : ℕ) (some : Bool) (r : LineRead old now kept some before bytes) → some ≡ true → r.raw ≢ []
-some_read old now kept before bytes some r t e = true_no (sym (r.some_is ∙ ap (λ l. nat_lt 0 (length l)) e)) t
+pub some_read : (old now : Option (List ℕ)) (kept : List ℕ) (most room : ℕ) (some : Bool) (r : LineRead old now kept some most room) → some ≡ true → r.raw ≢ []
+some_read old now kept most room some r t e = true_no (sym (r.some_is ∙ ap (λ l. nat_lt 0 (length l)) e)) t
   where
     true_no : {b : Bool} → false ≡ b → b ≡ true → ⊥
     true_no f t = cc
 
 -- none of the line was read
-pub none_read : (old now : Option (List ℕ)) (kept : List ℕ) (before bytes : ℕ) (r : LineRead old now kept false before bytes) → r.raw ≡ []
-none_read old now kept before bytes r = none r.raw r.some_is
+pub none_read : (old now : Option (List ℕ)) (kept : List ℕ) (most room : ℕ) (r : LineRead old now kept false most room) → r.raw ≡ []
+none_read old now kept most room r = none r.raw r.some_is
   where
     none : (raw : List ℕ) → false ≡ nat_lt 0 (length raw) → raw ≡ []
     none [] e = refl
@@ -54,13 +53,12 @@ stops_here (Some xs) None new ahead raw h e s = absurd h
 stops_here (Some xs) (Some ys) None ahead raw h e s = (ys, h ∙ ap (λ l. raw ++ l) (ap (λ l. l ++ ys) e), tt)
 stops_here (Some xs) (Some ys) (Some zs) ahead raw h e s = (ys, h ∙ ap (λ l. raw ++ l) (ap (λ l. l ++ ys) e), s)
 
-pub stops_err : {T E : Type 0} (r : Result T E) (old left new : Option (List ℕ)) (ahead ahead_new line : List ℕ) (some : Bool) (before bytes : ℕ) → LineRead old (prepend_known ahead left) line some before bytes → ahead ≡ [] → ahead_new ≡ [] → StaysIfKnown left new
-    → OnErr r ((raw : List ℕ) × Lacks 10 raw × (ahead_new ≡ []) × (before + length raw ≤ 67108864) × ReadStopsAt old new raw)
-stops_err (Ok x) old left new ahead ahead_new line some before bytes r e f s = tt
-stops_err (Err x) old left new ahead ahead_new line some before bytes r e f s =
-    let b = r.bytes_are in
-    let w = r.within in
-    (r.raw, r.no_lf, f, omega (arith, b, w), stops_here old left new ahead r.raw r.gone e s)
+pub stops_err : {T E : Type 0} (r : Result T E) (old left new : Option (List ℕ)) (ahead ahead_new line : List ℕ) (some : Bool) (most room : ℕ) → LineRead old (prepend_known ahead left) line some most room → ahead ≡ [] → ahead_new ≡ [] → StaysIfKnown left new
+    → OnErr r ((raw : List ℕ) × Lacks 10 raw × (ahead_new ≡ []) × (length raw ≤ most) × ReadStopsAt old new raw)
+stops_err (Ok x) old left new ahead ahead_new line some most room r e f s = tt
+stops_err (Err x) old left new ahead ahead_new line some most room r e f s =
+    let m = r.room_is in
+    (r.raw, r.no_lf, f, omega (arith, m), stops_here old left new ahead r.raw r.gone e s)
 
 -- the byte that ends a line
 pub to_lf : (old now new : Option (List ℕ)) (raw : List ℕ) (byte : ℕ) → Consumes old now raw → Consumes now new (byte ∷ []) → byte ≡ 10 → Consumes old new (raw ++ 10 ∷ [])
@@ -71,8 +69,10 @@ pub to_end : (old now new : Option (List ℕ)) (raw : List ℕ) → Consumes old
 to_end old now new raw h k = subst (λ (l : List ℕ). Consumes old new l) (append-nil raw) (Consumes-trans old now new raw [] h k)
 
 -- nothing was read, and nothing is left
-pub none_after : (old now new : Option (List ℕ)) (kept : List ℕ) (some : Bool) (before bytes : ℕ) → LineRead old now kept some before bytes → some ≡ false → IsAtEnd now → Consumes now new [] → IsAtEnd old × Consumes old new []
-none_after old now new kept some before bytes reading none a h =
-    let r = subst (λ (b : Bool). LineRead old now kept b before bytes) none reading in
-    let empty = none_read old now kept before bytes r in
-    (ends_after_none old now r.raw empty r.gone a, subst (λ (l : List ℕ). Consumes old new l) empty (to_end old now new r.raw r.gone h))
+pub none_after : (old now new : Option (List ℕ)) (kept : List ℕ) (some : Bool) (most room : ℕ) → LineRead old now kept some most room → some ≡ false → IsAtEnd now → Consumes now new [] → IsAtEnd old × Consumes old new [] × (room ≡ most)
+none_after old now new kept some most room reading none a h =
+    let r = subst (λ (b : Bool). LineRead old now kept b most room) none reading in
+    let empty = none_read old now kept most room r in
+    let m = r.room_is in
+    let n : length r.raw ≡ 0 = ap length empty in
+    (ends_after_none old now r.raw empty r.gone a, subst (λ (l : List ℕ). Consumes old new l) empty (to_end old now new r.raw r.gone h), omega (arith, m, n))

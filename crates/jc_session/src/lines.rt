@@ -1,6 +1,6 @@
 //! The lines of a source, read one by one up to the limits of a session. Sessions answer them.
 
-ghost use Rattle.std.specs.Prelude.{◌≡◌, ◌≢◌, ℕ, ◌+◌, ◌<◌, ◌≤◌, List, [], ◌∷◌, ◌++◌, length, take, Option, Some, None, Ok, IfOk, OnOk, OnErr, IfSome, ◌⊎◌};
+ghost use Rattle.std.specs.Prelude.{◌≡◌, ◌≢◌, ℕ, ◌+◌, ◌-◌, ◌<◌, ◌≤◌, ◌==◌, if◌then◌else◌, List, [], ◌∷◌, ◌++◌, length, take, Option, Some, None, Ok, IfOk, OnOk, OnErr, IfSome, ◌⊎◌};
 ghost use Rattle.std.specs.Io.KnownBytes.{Consumes, IsAtEnd, prepend_known};
 ghost use Rattle.jc_io.specs.Streams.{failures_of};
 ghost use Rattle.jc_rules.specs.declared.limits.TheConstants.{MAX_LINE, MAX_LINES, MAX_SESSION};
@@ -25,6 +25,54 @@ pub enum Next {
     TooMany,
 }
 
+/// Reads a line from a source, and from the bytes that were read ahead of it: up to an LF or the end, and as many bytes
+/// as there is room for. It takes the room of what it read. The source isn't read again once an LF is found, and at most
+/// one byte past the room is taken.
+pub fn read_line<S: Source>(
+    ahead: &mut Ahead,
+    line: &mut Line,
+    room: &mut u64,
+    source: &mut S,
+) -> Result<Next, Failed>
+    ensures whole { result ≡ Ok Next.Whole → (raw : List ℕ) × Lacks 10 raw
+        × Consumes (prepend_known ahead.old (S.left source.old)) (prepend_known ahead.new (S.left source.new))
+        (raw ++ 10 ∷ [])
+        × (line.new ≡ take (MAX_LINE + 1) raw) × (room.new + length raw + 1 ≡ room.old) }
+    ensures last { result ≡ Ok Next.Last → (raw : List ℕ) × Lacks 10 raw × (raw ≢ [])
+        × Consumes (prepend_known ahead.old (S.left source.old)) (prepend_known ahead.new (S.left source.new)) raw
+        × IsAtEnd (prepend_known ahead.new (S.left source.new))
+        × (line.new ≡ take (MAX_LINE + 1) raw) × (room.new + length raw ≡ room.old) }
+    ensures end { result ≡ Ok Next.End → IsAtEnd (prepend_known ahead.old (S.left source.old))
+        × Consumes (prepend_known ahead.old (S.left source.old)) (prepend_known ahead.new (S.left source.new)) []
+        × (room.new ≡ room.old) }
+    ensures too_many { result ≡ Ok Next.TooMany → (raw : List ℕ) × (b : ℕ) × Lacks 10 raw
+        × Consumes (prepend_known ahead.old (S.left source.old)) (prepend_known ahead.new (S.left source.new))
+        (raw ++ b ∷ [])
+        × (length raw ≡ room.old) }
+    ensures err { OnErr result ((raw : List ℕ) × Lacks 10 raw × (ahead.new ≡ []) × (length raw ≤ room.old)
+        × ReadStopsAt (prepend_known ahead.old (S.left source.old)) (S.left source.new) raw) }
+    ensures room { room.new ≤ room.old }
+    ensures few { OnOk result (length ahead.new < MAX_LINE) }
+    ensures failures { S.failures source.new ≡ S.failures source.old + failures_of result }
+{
+    line.clear();
+    let mut some = false;
+    'bytes: loop {
+        let Some(byte) = ahead.next(source)? else {
+            return Ok(if some { Next::Last } else { Next::End });
+        };
+        if *room == 0 {
+            return Ok(Next::TooMany);
+        }
+        *room -= 1;
+        if byte == b'\n' {
+            return Ok(Next::Whole);
+        }
+        line.push(byte);
+        some = true;
+    }
+}
+
 /// The reading of lines: the bytes read ahead, the line, and how many bytes and lines were read so far.
 #[derive(Drop)]
 pub struct Lines {
@@ -45,6 +93,17 @@ impl Lines {
             bytes: 0,
             count: 0,
         }
+    }
+
+    /// How many bytes the next line may have, with its LF: none where no line may come.
+    fn room(&self) -> u64
+        requires { self.now.bytes ≤ MAX_SESSION }
+        ensures { result ≡ (if self.now.count == MAX_LINES then 0 else MAX_SESSION - self.now.bytes) }
+    {
+        if self.count == MAX_LINES {
+            return 0;
+        }
+        MAX_SESSION - self.bytes
     }
 
     /// Reads the next line. The source isn't read again once an LF is found, and at most one byte past the limits is
@@ -79,28 +138,18 @@ impl Lines {
         ensures few { OnOk result (length self.new.ahead < MAX_LINE) }
         ensures failures { S.failures source.new ≡ S.failures source.old + failures_of result }
     {
-        self.line.clear();
-        if self.count == MAX_LINES {
-            return Ok(match self.ahead.next(source)? {
-                Some(_) => Next::TooMany,
-                None => Next::End,
-            });
-        }
-        let mut some = false;
-        'bytes: loop {
-            let Some(byte) = self.ahead.next(source)? else {
-                return Ok(if some { Next::Last } else { Next::End });
-            };
-            if self.bytes == MAX_SESSION {
-                return Ok(Next::TooMany);
-            }
-            self.bytes += 1;
-            if byte == b'\n' {
+        let room = self.room();
+        let mut left = room;
+        let next = read_line(&mut self.ahead, &mut self.line, &mut left, source)?;
+        self.bytes += room - left;
+        match next {
+            Next::Whole => {
                 self.count += 1;
-                return Ok(Next::Whole);
+                Ok(Next::Whole)
             }
-            self.line.push(byte);
-            some = true;
+            Next::Last => Ok(Next::Last),
+            Next::End => Ok(Next::End),
+            Next::TooMany => Ok(Next::TooMany),
         }
     }
 }

@@ -110,14 +110,16 @@ fn run(debugger: &mut Debugger) -> Result<Reply, AllocError>
 
 // ---- events of a line
 
-/// What the rest of an `act` line spells: an event, or none, with the refusal and its offset.
+/// What a text spells, as the rest of an `act` line: an event, or none, with the refusal and its offset in bytes.
 #[derive(Drop)]
-enum Spelling {
+pub enum Spelling {
     Event(Event),
     Refused { refusal: Refusal, place: usize },
 }
 
-fn event_of(
+/// What the text spells in this version. `names` has the name of each replica at its number. Why no event is read comes
+/// before a name that no replica has. Nothing but memory is an error.
+pub fn event_of(
     alloc: Global,
     version: Version,
     names: &[Text],
@@ -175,8 +177,8 @@ fn act(alloc: Global, debugger: &mut Debugger, rest: &str) -> Result<Reply, Allo
 
 // ---- breakpoints
 
-/// The number of the replica that has the name.
-fn number_of(names: &[Text], name: &[u8]) -> Option<u16>
+/// The number of the replica that has the name, if one has: its place among the names.
+pub fn number_of(names: &[Text], name: &[u8]) -> Option<u16>
     requires { length names.now ≤ MAX_REPLICAS }
     ensures some { IfSome result (λ p. IsNamed names.now name.now p) }
     ensures none { IfNone result (IsStrange names.now name.now) }
@@ -216,7 +218,7 @@ fn knows(version: Version, rule: Rule) -> bool
 }
 
 /// The rule with the name, if a session of the version knows it.
-fn rule_of(version: Version, name: &str) -> Option<Rule>
+pub fn rule_of(version: Version, name: &str) -> Option<Rule>
     ensures some { IfSome result (λ rule. Knows rule version × (rule_name rule ≡ name.now)) }
     ensures none { IfNone result ((rule : AnyRule) → Knows rule version → rule_name rule ≢ name.now) }
 {

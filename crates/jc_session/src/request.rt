@@ -59,7 +59,7 @@ fn blanks(text: &[u8]) -> usize
 }
 
 /// How many bytes are before the first blank.
-fn word_len(text: &[u8]) -> usize
+pub fn word_len(text: &[u8]) -> usize
     ensures { result ≡ position_or_len is_blank_char text.now }
 {
     for (at, byte) in text.iter().enumerate() {
@@ -71,14 +71,14 @@ fn word_len(text: &[u8]) -> usize
 }
 
 /// The bytes from the first one on that is no blank.
-fn past_blanks(text: &[u8]) -> &[u8]
+pub fn past_blanks(text: &[u8]) -> &[u8]
     ensures { result.now ≡ past is_blank_char text.now }
 {
     text.split_at(blanks(text)).1
 }
 
-/// The first word of a text, and what follows it.
-fn first_word(text: &[u8]) -> Option<(&[u8], &[u8])>
+/// The first word of a text, and what follows it. `None` where it has no word.
+pub fn first_word(text: &[u8]) -> Option<(&[u8], &[u8])>
     ensures parts { MatchOption result (words text.now ≡ []) (λ x.
         (words text.now ≡ x.0.now ∷ words x.1.now)
         × (x.1.now ≡ past (λ b. not (is_blank_char b)) (past is_blank_char text.now))) }
@@ -91,13 +91,15 @@ fn first_word(text: &[u8]) -> Option<(&[u8], &[u8])>
     Some(text.split_at(word_len(text)))
 }
 
-fn all_digits(word: &[u8]) -> bool
+/// Whether each byte is a digit.
+pub fn all_digits(word: &[u8]) -> bool
     ensures { result ≡ all_ascii_digits word.now }
 {
     word.iter().all(|b| b.is_ascii_digit())
 }
 
-fn all_ascii(text: &[u8]) -> bool
+/// Whether each byte is below 128.
+pub fn all_ascii(text: &[u8]) -> bool
     ensures { result ≡ list_all (λ b. nat_lt b 128) text.now }
 {
     text.iter().all(|b| b.is_ascii())
@@ -112,7 +114,7 @@ fn is_number(word: &[u8]) -> bool
 }
 
 /// Bytes below 128 as a text.
-fn ascii_text(bytes: &[u8]) -> &str
+pub fn ascii_text(bytes: &[u8]) -> &str
     requires { AreAscii bytes.now }
     ensures { result.now ≡ bytes.now }
 {
@@ -122,8 +124,8 @@ fn ascii_text(bytes: &[u8]) -> &str
     }
 }
 
-/// The number that a word is.
-fn number_in(word: &[u8]) -> Option<u64>
+/// The number that a word is: `0`, or 1 to 10 digits of which the first isn't `0`. `None` is another word.
+pub fn number_in(word: &[u8]) -> Option<u64>
     ensures { result ≡ number_in word.now }
 {
     if is_number(word) {

@@ -40,7 +40,7 @@ lexeme_later text t inside is = later t.kind text t.start t.stop is.size inside 
 
 -- ---- what stands at a place is one lexeme or one fault
 
-one_end : (kind : TokenKind) (text : List ℕ) (at p q m n : ℕ) → LexemeEndsAt kind text at p m → LexemeEndsAt kind text at q n → (p ≡ q) × (m ≡ n)
+pub one_end : (kind : TokenKind) (text : List ℕ) (at p q m n : ℕ) → LexemeEndsAt kind text at p m → LexemeEndsAt kind text at q n → (p ≡ q) × (m ≡ n)
 one_end Name text at p q m n a b = (a.0 ∙ sym b.0, omega (arith, a.0, a.1, b.0, b.1))
 one_end Number text at p q m n a b = (a.0 ∙ sym b.0, omega (arith, a.0, a.1, b.0, b.1))
 one_end Str text at p q m n a b =
@@ -62,7 +62,7 @@ one_lexeme text t u start a b =
     let stop = one_end u.kind text u.start t.stop u.stop a.size b.size (rw (start, kind) at a.ends) b.ends in
     token_same t.kind u.kind t.start u.start t.stop u.stop kind start stop.0
 
-malformed_or_ends : (kind : TokenKind) (text : List ℕ) (at stop size : ℕ) (fault : LexFault) → IsMalformed (Some kind) text at fault → LexemeEndsAt kind text at stop size → ⊥
+pub malformed_or_ends : (kind : TokenKind) (text : List ℕ) (at stop size : ℕ) (fault : LexFault) → IsMalformed (Some kind) text at fault → LexemeEndsAt kind text at stop size → ⊥
 malformed_or_ends Number text at stop size fault m e = m.0 (rw (← e.0) e.2)
 malformed_or_ends Str text at stop size fault m e = string_or_fault text at stop e.0 fault e.1 m
 malformed_or_ends kind text at stop size fault m e = m

@@ -1,4 +1,5 @@
 pub mod TokenBoundsLemmas
+pub mod TokenEndsLemmas
 pub mod StringsContentLemmas
 pub mod LexemesDecideLemmas
 pub mod StringsDecodeLemmas

@@ -127,3 +127,17 @@ token_bytes text t = slice_range text t.start t.stop
 -- what a string token spells
 unfoldable pub token_content : List ℕ → Token → List ℕ
 token_content text t = spelled_from (t.stop - t.start) text (t.start + 1)
+
+-- ---- ends
+
+-- the end of what begins like a token of a kind: of a number's run also where that is no number
+abbrev pub RunEndsAt : TokenKind → List ℕ → ℕ → ℕ → Type 0
+RunEndsAt Number text at stop = stop ≡ after_number_run text at
+RunEndsAt kind text at stop = (size : ℕ) × LexemeEndsAt kind text at stop size
+
+-- A token of a text within the limit begins at the one offset and ends at the other, be it within its own limit or not.
+pub record IsTokenEnd (text : List ℕ) (at stop : ℕ) : Type 0 where
+  pub room : length text ≤ MAX_TEXT
+  pub kind : TokenKind
+  pub begins : kind_at text at ≡ Some kind
+  pub ends : RunEndsAt kind text at stop

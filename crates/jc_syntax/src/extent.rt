@@ -46,7 +46,8 @@ fn name_run(bytes: &[u8]) -> usize
     bytes.iter().take_while(|b| is_name_byte(**b)).count()
 }
 
-fn number_run(bytes: &[u8]) -> usize
+/// The length of the longest run of bytes that a number may have.
+pub(crate) fn number_run(bytes: &[u8]) -> usize
     ensures run { result ≡ prefix_len spec.is_number_byte bytes.now }
     ensures within { result ≤ length bytes.now }
 {

@@ -1,12 +1,12 @@
 //! The lexer: the tokens of a text, or its lexical fault. The readers of texts begin with it.
 
-ghost use Rattle.std.specs.Prelude.{◌≡◌, ◌≢◌, ◌+◌, ◌<◌, ◌≤◌, length, All, IfOk, IfErr};
+ghost use Rattle.std.specs.Prelude.{◌≡◌, ◌≢◌, ◌+◌, ◌<◌, ◌≤◌, ℕ, length, All, IfOk, IfErr, IfSome, IfNone, Some};
 ghost use Rattle.std.specs.List.{prefix_len};
 ghost use Rattle.jc_rules.specs.declared.limits.TheConstants.{MAX_TEXT};
 ghost use Rattle.jc_syntax.specs.Bytes as spec;
-ghost use Rattle.jc_syntax.specs.Lexemes.{after_blanks, kind_at, IsLexeme, IsTokenOf, IsLexFault, AreTokensOf, IsFaultOf};
+ghost use Rattle.jc_syntax.specs.Lexemes.{after_blanks, kind_at, IsLexeme, IsTokenOf, IsLexFault, AreTokensOf, IsFaultOf, RunEndsAt, IsTokenEnd};
 
-use crate::extent::{extent_of, is_name_start, limit_of};
+use crate::extent::{extent_of, is_name_start, limit_of, number_run};
 use crate::fault::LexFault;
 use crate::piece::byte_at;
 use crate::token::{Token, TokenKind};
@@ -106,4 +106,37 @@ pub fn lex(alloc: Global, text: &str) -> Result<Vec<Token>, LexFault>
         at = skip_blanks(bytes, token.stop as usize);
     }
     Ok(tokens)
+}
+
+/// The offset behind what begins like a token of this kind, if it is one; a number's run need not be a JSON number.
+fn run_end(kind: TokenKind, text: &[u8], at: usize) -> Option<usize>
+    requires begins { kind_at text.now at ≡ Some kind }
+    requires inside { at < length text.now }
+    requires room { length text.now ≤ MAX_TEXT }
+    ensures end { IfSome result (RunEndsAt kind text.now at) }
+    ensures none { IfNone result ((stop : ℕ) → RunEndsAt kind text.now at stop → ⊥) }
+    ensures inside { IfSome result (λ stop. stop ≤ length text.now) }
+{
+    if let TokenKind::Number = kind {
+        return Some(at + number_run(&text[at..]));
+    }
+    match extent_of(kind, text, at) {
+        Ok(extent) => Some(extent.stop),
+        Err(_) => None,
+    }
+}
+
+/// The offset behind the token that begins at `at`, be it within its limit or not. A number's run need not be a JSON
+/// number. There is none where no token begins, where a string is malformed, and in a text of more than 8,388,608 bytes.
+pub fn token_end(text: &[u8], at: usize) -> Option<usize>
+    ensures end { IfSome result (IsTokenEnd text.now at) }
+    ensures only { IfSome result (λ stop. (other : ℕ) → IsTokenEnd text.now at other → other ≡ stop) }
+    ensures none { IfNone result ((stop : ℕ) → IsTokenEnd text.now at stop → ⊥) }
+    ensures inside { IfSome result (λ stop. stop ≤ length text.now) }
+{
+    if at >= text.len() || text.len() > MAX_TEXT {
+        return None;
+    }
+    let kind = kind_at(text, at)?;
+    run_end(kind, text, at)
 }

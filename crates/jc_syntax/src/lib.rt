@@ -13,6 +13,6 @@ mod tree;
 
 pub use content::{slice_of, string_of};
 pub use fault::LexFault;
-pub use lexer::lex;
+pub use lexer::{lex, token_end};
 pub use token::{Token, TokenKind};
 pub use tree::{Cmd, Expr, Named, NamedEvent, copy_script};

@@ -4,6 +4,7 @@ pub mod NumbersLemmas
 pub mod PresentLemmas
 pub mod ElementsLemmas
 pub mod MembersLemmas
+pub mod PlacesLemmas
 pub mod ReplicaViewsLemmas
 pub mod NamesLemmas
 pub mod PathTestsLemmas

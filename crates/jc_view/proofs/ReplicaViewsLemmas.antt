@@ -1,9 +1,11 @@
--- About Visible: the documents of a network's replicas.
+-- About Visible and Places: what a network's replicas show.
 use Rattle.std.proofs.Common.{◌≡◌, ℕ, List, [], ◌∷◌, ◌++◌, Some, slice_get, sym, ◌∙◌, ap, subst}
 use Rattle.std.proofs.lemmas.Option.{same_Some}
 use Rattle.json.specs.Print.{print}
 use Rattle.json.specs.Tree.{json_tokens}
+use Rattle.jc_rules.specs.declared.operation.Cursor.{Cursor}
 use Rattle.jc_rules.specs.Context.{Context}
+use Rattle.jc_rules.specs.ContextsAt.{node_at}
 use Rattle.jc_rules.specs.ReplicaNames.{name_at}
 use Rattle.jc_rules.specs.WellFormed.{IsChained}
 use Rattle.jc_rules.specs.State.{State}
@@ -14,6 +16,7 @@ use Rattle.jc_network.specs.Invariant.{IsFromStart}
 use Rattle.jc_network.proofs.RunInvariantStartLemmas.{start_well}
 use Rattle.jc_network.proofs.ChainedLemmas.{are_chained}
 use Rattle.jc_meaning.proofs.ComparisonLemmas.{run_well}
+use Rattle.jc_view.specs.Places.{shown_in, place_line}
 use Rattle.jc_view.specs.Visible.{document, goes_by, line_json, view_line}
 use Rattle.jc_view.proofs.AppliedPathsLemmas.{goes_kept}
 
@@ -36,6 +39,15 @@ same_view names name network p replica A r has there =
     ∙ ap (λ g. print (json_tokens (line_json name (document names g has.at.tree))) ++ 10 ∷ []) goes
     ∙ ap (λ (S : State). view_line names name S) same
 
--- the line, by what its parts are
-pub line_is : (names ns : List (List ℕ)) (n : List ℕ) (p : ℕ) (K A : State) (line : List ℕ) → line ≡ view_line ns n K → n ≡ name_at ns p → ns ≡ names → view_line names (name_at names p) K ≡ view_line names (name_at names p) A → line ≡ view_line names (name_at names p) A
-line_is names ns n p K A line e f h k = e ∙ ap (λ x. view_line ns x K) f ∙ ap (λ x. view_line x (name_at x p) K) h ∙ k
+pub same_place : (names : List (List ℕ)) (name : List ℕ) (cursor : Cursor) (network : List State) (p : ℕ) (replica : ReplicaHistory) (A : State) → IsFromStart network → HasReplica network p replica → slice_get network p ≡ Some A → place_line names name replica.history.now cursor ≡ place_line names name A cursor
+unfolding place_line
+same_place names name cursor network p replica A r has there =
+    let same : has.at ≡ A = same_Some has.at A (sym has.there ∙ there) in
+    let goes : goes_by (stored_state has.at) ≡ goes_by has.at = goes_kept network (run_well network r) p has.at has.there in
+    ap (λ (S : State). place_line names name S cursor) has.kept
+    ∙ ap (λ g. print (json_tokens (line_json name (shown_in names g cursor.path (node_at cursor.path has.at.tree) cursor.last))) ++ 10 ∷ []) goes
+    ∙ ap (λ (S : State). place_line names name S cursor) same
+
+-- a line, by what its parts are
+pub line_is : (of : List (List ℕ) → List ℕ → State → List ℕ) (names ns : List (List ℕ)) (n : List ℕ) (p : ℕ) (K A : State) (line : List ℕ) → line ≡ of ns n K → n ≡ name_at ns p → ns ≡ names → of names (name_at names p) K ≡ of names (name_at names p) A → line ≡ of names (name_at names p) A
+line_is of names ns n p K A line e f h k = e ∙ ap (λ x. of ns x K) f ∙ ap (λ x. of x (name_at x p) K) h ∙ k

@@ -3,7 +3,9 @@ use Rattle.std.specs.Prelude.{◌≡◌, ◌≢◌, ℕ, List, [], ◌∷◌, �
 use Rattle.json.specs.Tree.{HasNumbers}
 use Rattle.jc_rules.specs.declared.id.Id.{Id}
 use Rattle.jc_rules.specs.declared.key.Key.{Key}
+use Rattle.jc_rules.specs.declared.key.Key.TheVariants.{Doc}
 use Rattle.jc_rules.specs.declared.key.Tagged.{Tagged}
+use Rattle.jc_rules.specs.declared.operation.Cursor.{Cursor}
 use Rattle.jc_rules.specs.Ids.{has_id}
 use Rattle.jc_rules.specs.Context.{Context, presences}
 use Rattle.jc_rules.specs.WellFormed.{drop}
@@ -11,7 +13,8 @@ use Rattle.jc_rules.specs.State.{State}
 use Rattle.jc_rules.specs.Syntax.{Cmd}
 use Rattle.jc_network.specs.Laws.{IsReached}
 use Rattle.jc_meaning.specs.Seen.{seen, ids_at}
-use Rattle.jc_view.specs.Visible.{GoesThrough, is_alive, goes_by, present, marked, document, visible, view_json}
+use Rattle.jc_view.specs.Places.{place_line}
+use Rattle.jc_view.specs.Visible.{GoesThrough, is_alive, goes_by, present, marked, document, visible, view_json, view_line}
 
 -- Empty presence sets show nothing.
 abbrev pub DroppedShowTheSame : Type 0
@@ -39,6 +42,14 @@ PresentAreAlive =
     → (at : List Tagged) (t : Tagged) (k : Key) (i : Id)
     → has_id i (ids_at k (seen (at ++ t ∷ []) A.tree)) ≡ true
     → is_alive (goes_by A) at (present (presences (seen at A.tree))) t ≡ true
+
+-- At the document's own cursor the line is that of the whole document.
+abbrev pub DocumentIsAPlace : Type 0
+DocumentIsAPlace =
+    (names : List (List ℕ)) (name : List ℕ) (A : State) (cursor : Cursor)
+    → cursor.path ≡ []
+    → cursor.last ≡ Doc
+    → place_line names name A cursor ≡ view_line names name A
 
 -- What is shown has numbers of JSON alone.
 abbrev pub ViewsHaveNumbers : Type 0

@@ -63,6 +63,11 @@ items_front show p (i ∷ is) =
 abbrev pub part_tokens : List ℕ → Bool → Json → List Token
 part_tokens k shown j = cond shown (T.key k ∷ json_tokens j) []
 
+-- the tokens of a member that may not be there
+abbrev pub member_tokens : List ℕ → Option Json → List Token
+member_tokens k None = []
+member_tokens k (Some j) = T.key k ∷ json_tokens j
+
 abbrev pub is_list : Tagged → Bool
 is_list (ListT k) = true
 is_list (MapT k) = false

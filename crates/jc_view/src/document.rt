@@ -39,7 +39,7 @@ enum Form {
 }
 
 /// Whether the key's presence set has an identifier.
-fn is_present<S: TreeStore>(store: &S, place: Place, at: &[Tagged], key: &Key) -> bool
+pub(crate) fn is_present<S: TreeStore>(store: &S, place: Place, at: &[Tagged], key: &Key) -> bool
     requires there { HasPlace at.now (S.tree store.now) }
     requires named { S.names store.now place at.now }
     ensures { result ≡ is_some (find key_cmp key.now (present (presences (here at.now (S.tree store.now))))) }
@@ -314,7 +314,7 @@ fn write_every<S: TreeStore>(
 
 /// Writes what is shown at a key of the context at a path.
 #[cycle(walk)]
-fn write_place<S: TreeStore>(
+pub(crate) fn write_place<S: TreeStore>(
     alloc: Global,
     names: &[Text],
     replica: &Replica<S>,

@@ -1,6 +1,6 @@
 //! Laws of views. Each function does nothing: its contract is the law.
 
-ghost use Rattle.jc_view.specs.Laws.{DroppedShowTheSame, ViewsConverge, PresentAreAlive, ViewsHaveNumbers, NamesStayApart};
+ghost use Rattle.jc_view.specs.Laws.{DroppedShowTheSame, ViewsConverge, PresentAreAlive, DocumentIsAPlace, ViewsHaveNumbers, NamesStayApart};
 
 /// Empty presence sets show nothing.
 pub fn dropped_show_the_same()
@@ -15,6 +15,11 @@ pub fn views_converge()
 /// In each network that is reached from a start, a map or a list in which something is present is alive.
 pub fn present_are_alive()
     ensures { PresentAreAlive }
+{}
+
+/// At the document's own cursor the line is that of the whole document.
+pub fn document_is_a_place()
+    ensures { DocumentIsAPlace }
 {}
 
 /// What is shown has numbers of JSON alone.

@@ -4,8 +4,10 @@
 mod alive;
 mod document;
 pub mod laws;
+mod place;
 mod replica;
 mod values;
 
 pub use document::view_line;
+pub use place::view_place;
 pub use replica::view_replica;

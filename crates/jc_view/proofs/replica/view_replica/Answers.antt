@@ -1,5 +1,6 @@
 use Rattle.std.proofs.Common.{refl}
 use Rattle.jc_rules.specs.ReplicaNames.{name_at}
+use Rattle.jc_view.specs.Visible.{view_line}
 use Rattle.jc_view.proofs.ReplicaViewsLemmas.{chained_of, same_view, line_is}
 use Rattle.jc_view.proofs.replica.view_replica.Goals as goal
 
@@ -12,4 +13,4 @@ returns-clause-view c = λ A there.
     let p = c.args.p in
     let replica = c.in-Some.replica.now in
     let same = same_view names (name_at names p) c.args.net.now.history.now.states p replica A c.steps-steps.ensures.reached c.in-Some.ensures.some there in
-    line_is names _ _ p replica.history.now A _ c.in_ok-view_line.ensures c.name_at.ensures c.names-names.ensures.names same
+    line_is view_line names _ _ p replica.history.now A _ c.in_ok-view_line.ensures c.name_at.ensures c.names-names.ensures.names same
