@@ -30,13 +30,13 @@ pub returns-clause-ok : goal.returns-clause-ok
 returns-clause-ok g c =
     let from = has_started (scenario_view c.args.scenario) c.in_ok-net.net c.lead.new.self c.begin.new.self c.deref.result.now c.in_ok-net.ensures c.deref.ensures.value c.in-Ok.ensures.led c.lead.ensures.names c.begin.ensures in
     let events = c.first_events-schedule.ensures ∙ ap (take c.args.events) c.deref-2.ensures.value in
-    stopped c.args.trace c.args.lines (take c.args.events (scenario_view c.args.scenario).schedule) (scenario_view c.args.scenario) c.begin.new.self c.first_events-schedule.result.now from events c.play.new.net (output g.K.Sink c.args.out.now) (output g.K.Sink c.change_room.new.self) c.in_ok-stuck.stuck (plays_on c.args.trace c.begin.new.self c.play.new.net c.first_events-schedule.result.now (output g.K.Sink c.args.out.now) (output g.K.Sink c.play.new.out) (output g.K.Sink c.change_room.new.self) c.in_ok-stuck.stuck c.in_ok-stuck.ensures.ok c.change_room.ensures) (output g.K.Sink c.add_lines.new.out) (output g.K.Sink c.pass.new.self) c.in-Some.stuck c.as_str.result.now c.in-Some.is (λ why event e. c.as_str.ensures.value ∙ c.in_ok-line-in-Some.ensures why event e) c.in_ok-add_lines.ensures.ok c.pass.ensures
+    stopped c.args.trace c.args.lines (take c.args.events (scenario_view c.args.scenario).schedule) (scenario_view c.args.scenario) c.begin.new.self c.first_events-schedule.result.now from events c.play.new.net (output g.K.Sink c.args.out.now) (output g.K.Sink c.change_room.new.self) c.in_ok-stuck.stuck (plays_on c.args.trace c.begin.new.self c.play.new.net c.first_events-schedule.result.now (output g.K.Sink c.args.out.now) (output g.K.Sink c.play.new.out) (output g.K.Sink c.change_room.new.self) c.in_ok-stuck.stuck c.in_ok-stuck.ensures.ok c.change_room.ensures) (output g.K.Sink c.add_lines.new.out) (output g.K.Sink c.pass.new.self) c.in-Some.stuck c.as_bytes.result.now c.in-Some.is (λ why event e. c.as_bytes.ensures.value ∙ (c.as_str.ensures.value ∙ c.in_ok-line-in-Some.ensures why event e)) c.in_ok-add_lines.ensures.ok c.pass.ensures
 
 -- ---- without memory
 
 -- nothing is there
 pub returns-in_err-net-clause-halted : goal.returns-in_err-net-clause-halted
-returns-in_err-net-clause-halted g c = on_err _ c.from_residual-in_err-net.result (unstarted c.args.trace c.args.lines (take c.args.events (scenario_view c.args.scenario).schedule) (scenario_view c.args.scenario) (output g.K.Sink c.args.out.now) (output g.K.Sink c.args.out.now) refl)
+returns-in_err-net-clause-halted g c = on_err _ c.from_residual.result (unstarted c.args.trace c.args.lines (take c.args.events (scenario_view c.args.scenario).schedule) (scenario_view c.args.scenario) (output g.K.Sink c.args.out.now) (output g.K.Sink c.args.out.now) refl)
 
 -- the blocks of some events are
 pub returns-in_err-stuck-clause-halted : goal.returns-in_err-stuck-clause-halted
