@@ -1,5 +1,5 @@
 -- About PlayResult (Added): what a task added to an output that was made over a sink, and what of it is written then.
-use Rattle.std.proofs.Common.{◌≡◌, ◌⊎◌, ◌∙◌, ℕ, List, [], ◌∷◌, ◌++◌, Bool, true, false, not, take, inl, inr, Result, Ok, Err, IfOk, OnErr, refl, sym, subst, append-nil}
+use Rattle.std.proofs.Common.{◌≡◌, ◌⊎◌, ◌∙◌, ℕ, List, [], ◌∷◌, Bool, true, false, not, take, inl, inr, Result, Ok, Err, IfOk, OnErr, refl, sym, subst, append-nil}
 use Rattle.jc_io.specs.declared.io.Sink.{Ghosts as SinkGhosts}
 use Rattle.jc_io.specs.Written.{Stream, sink, Wrote, WrotePart, Written, WrittenInPart}
 use Rattle.jc_out.specs.Out.{OutState, GaveText, AddsText}
