@@ -9,8 +9,10 @@ import hashlib
 import html
 import json
 import os
+import pty
 import re
 import shutil
+import subprocess
 import tempfile
 
 import sections
@@ -333,6 +335,16 @@ def is_seen(programs):
     expect(told.returncode == 0, (told.stdout + told.stderr).decode())
 
 
+def is_for_a_file(programs):
+    """A page isn't written to a terminal."""
+    ours, theirs = pty.openpty()
+    ended = subprocess.run(["tools/page", "examples/first.jsoncrdt"], stdout=theirs, stderr=subprocess.PIPE,
+                           env={**os.environ, "JSONCRDT": programs.program}, check=False)
+    os.close(theirs)
+    os.close(ours)
+    expect(ended.returncode == 2 and ended.stderr.decode().count("\n") == 1 and b"> page.html" in ended.stderr, f"{ended}")
+
+
 def run_pages():
     yield from pages_of_all()
     yield "tools/page: odd names and values", is_odd
@@ -342,4 +354,5 @@ def run_pages():
     yield "tools/page: the same, whoever is asked", is_one_page
     yield "tools/page: --from and --most", has_window
     yield "tools/page: --diff", has_both
+    yield "tools/page: a terminal", is_for_a_file
     yield "tools/page: tests/in_browser", is_seen
