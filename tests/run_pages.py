@@ -342,7 +342,8 @@ def is_for_a_file(programs):
                            env={**os.environ, "JSONCRDT": programs.program}, check=False)
     os.close(theirs)
     os.close(ours)
-    expect(ended.returncode == 2 and ended.stderr.decode().count("\n") == 1 and b"> page.html" in ended.stderr, f"{ended}")
+    told = ended.stderr.decode()
+    expect(ended.returncode == 2 and told.count("\n") == 1 and "> page.html" in told, f"{ended}")
 
 
 def run_pages():
