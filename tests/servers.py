@@ -412,7 +412,9 @@ const module_ = require("module"), load = module_._load, said = [];
 const editor = {
   window: { showInformationMessage: text => said.push(text) },
   debug: { registerDebugAdapterDescriptorFactory: (type, factory) =>
-    said.push(`${type}: ${factory.createDebugAdapterDescriptor().command}`) },
+    said.push(`${type}: ${factory.createDebugAdapterDescriptor().command}`),
+    registerDebugConfigurationProvider: (type, { resolveDebugConfiguration: resolve }) =>
+      said.push(`${type}: ${resolve(undefined, {}).program} ${resolve(undefined, { type, program: "a" }).program}`) },
   DebugAdapterExecutable: class { constructor(command) { this.command = command; } },
 };
 module_._load = (name, ...rest) => name === "vscode" ? editor
@@ -435,11 +437,11 @@ def starts_server(programs):
     path = os.path.abspath("editors/vscode/client.js")
     there = run(["node", "-e", STUBS, "there", path], programs.program)
     tools = os.path.join(ROOT, "tools")
-    debugger = f"jsoncrdt: {tools}/dap\n"
+    debugger = f"jsoncrdt: {tools}/dap\njsoncrdt: ${{file}} a\n"
     expect_same(there.stdout.decode() or there.stderr.decode(), f"{debugger}{tools}/lsp\nstopped\n")
     if not os.path.exists("editors/vscode/node_modules"):
         said = run(["node", "-e", STUBS, "missing", path], programs.program).stdout.decode()
-        expect(said.startswith(debugger) and "npm install" in said and said.count("\n") == 2, said)
+        expect(said.startswith(debugger) and "npm install" in said and said.count("\n") == 3, said)
 
 
 def servers():
