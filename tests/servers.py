@@ -445,8 +445,8 @@ def starts_server(programs):
 
 
 WAITS = ["a page of", "what is wrong", "a hover on an event", "a hover on a replica", "a definition", "completion",
-         "formatting", "symbols", "a woven schedule", "a launch", "on to a breakpoint", "a step", "a step back", "frames",
-         "a document", "a state", "a watch", "back to the start"]
+         "formatting", "symbols", "a woven schedule", "a launch", "on to a breakpoint", "a step", "a step back",
+         "frames", "a document", "a state", "a watch", "back to the start"]
 
 
 def tells_waits(programs):
