@@ -37,7 +37,7 @@ pub shown_sent : (names : List (List ℕ)) (shown : Shown) (tree : Context) (old
     → Member (codes "recv") (ids_data names shown.recv.now) queue recv
     → Member (codes "send") (ids_data names shown.send.now) recv send
     → Member (codes "tree") (context_data names tree) send root
-    → Logs root named (field_key (codes "vars") AsIs) → SendsValue (vars_data names (vars_of shown.vars.now)) named vars
+    → Logs root named (field_key (codes "vars") AsIs) → SendsValue (vars_data names (vars_of shown.vars.now.entries)) named vars
     → Logs vars end map_ends → SendsValue (object_of (shown_members names shown tree)) old end
 unfolding shown_members
 shown_sent names shown tree old begun acted left name ops queue recv send root named vars end b m1 m2 m3 m4 m5 m6 m7 m8 n9 s9 ended =

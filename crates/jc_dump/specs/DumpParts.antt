@@ -24,7 +24,7 @@ shown_members names shown tree =
     ∷ (codes "recv", ids_data names shown.recv.now)
     ∷ (codes "send", ids_data names shown.send.now)
     ∷ (codes "tree", context_data names tree)
-    ∷ (codes "vars", vars_data names (vars_of shown.vars.now))
+    ∷ (codes "vars", vars_data names (vars_of shown.vars.now.entries))
     ∷ []
 
 -- The parts and the tree are those of the state.
@@ -36,4 +36,4 @@ pub record HasParts (A : State) (shown : Shown) (tree : Context) : Type 0 where
   pub recv : ids_of_dumped A.recv ≡ shown.recv.now
   pub send : ids_of_dumped A.send ≡ shown.send.now
   pub tree_is : A.tree ≡ tree
-  pub vars : A.vars ≡ vars_of shown.vars.now
+  pub vars : A.vars ≡ vars_of shown.vars.now.entries
