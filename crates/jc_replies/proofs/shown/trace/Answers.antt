@@ -1,0 +1,33 @@
+use Rattle.std.proofs.Common.{◌≡◌, ◌-◌, codes, get_or, refl, ap, ◌∙◌}
+use Rattle.std.proofs.lemmas.Result.{IfOk-weaker}
+use Rattle.jc_rules.specs.declared.operation.Event.TheVariants.{Exec}
+use Rattle.jc_session.proofs.AnswerTextLemmas.{event_at, trace_named}
+use Rattle.jc_answers.specs.JsonTexts.{text_member, object_text}
+use Rattle.jc_answers.specs.Parts.{member_of}
+use Rattle.jc_answers.proofs.RefusedLemmas.{one_member}
+use Rattle.jc_replies.specs.ReplyTexts.{true_member}
+use Rattle.jc_replies.proofs.ShownLemmas.{start_told, trace_told}
+use Rattle.jc_replies.proofs.shown.trace.Goals as goal
+
+pub returns-in_default : goal.returns-in_default
+returns-in_default c =
+    let start : member_of c.text.result ≡ true_member (codes "start") = c.text.ensures ∙ ap (text_member (codes "start")) c.as_slice.ensures in
+    IfOk-weaker c.object_text.result _ _ (λ answer h.
+    start_told c.args.debugger.now answer.items (c.in_default.ensures.start.0 refl) (h ∙ ap object_text (one_member c.text.result (true_member (codes "start")) start))) c.object_text.ensures
+
+pub traced-requires : goal.traced-requires
+traced-requires c =
+    let d = c.args.debugger.now in
+    let t = c.in-Some.rows.now in
+    let es = c.schedule.result.now in
+    let n = c.position-n.result in
+    trace_named d t c.in-Some.ensures.trace c.net.result.now c.names.result.now (get_or es (n - 1) (Exec 0)) c.requires c.net.ensures.net c.names.ensures.names (event_at d t c.in-Some.ensures.trace es n (Exec 0) c.schedule.ensures c.position-n.ensures.position)
+
+pub returns : goal.returns
+returns c =
+    let d = c.args.debugger.now in
+    let t = c.in-Some.rows.now in
+    let es = c.schedule.result.now in
+    let n = c.position-n.result in
+    IfOk-weaker c.traced.result _ _ (λ answer due.
+    trace_told d t c.net.result.now c.names.result.now n (get_or es (n - 1) (Exec 0)) answer.items c.net.ensures.net c.names.ensures.names c.position-n.ensures.position c.in-Some.ensures.trace (event_at d t c.in-Some.ensures.trace es n (Exec 0) c.schedule.ensures c.position-n.ensures.position) due) c.traced.ensures
