@@ -102,7 +102,7 @@ class Group:
 
 
 def groups_of(tree, name, edits):
-    """These edits in groups of two at least, each for one check, and those that are to be tried alone."""
+    """These edits in groups, each for one check, and those that are to be tried alone."""
     groups, called = [], called_by(tree, name)
     held = {edit: names for edit in edits if (names := names_held(tree, name, edit))}
     below = {edit: set().union(*(called[function] for function in names)) for edit, names in held.items()}
@@ -112,8 +112,7 @@ def groups_of(tree, name, edits):
         if not group:
             groups.append(group := Group())
         group.add(edit, held[edit], below[edit])
-    groups = [group.edits for group in groups if len(group.edits) > 1]
-    return groups, [edit for edit in edits if not any(edit in group for group in groups)]
+    return [group.edits for group in groups], [edit for edit in edits if edit not in held]
 
 
 def edited(tree, name, edit, texts):
