@@ -1,0 +1,3 @@
+pub mod JsonTextsLemmas
+pub mod PositionsLemmas
+pub mod RefusedLemmas

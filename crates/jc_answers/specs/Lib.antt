@@ -1,0 +1,3 @@
+pub mod JsonTexts
+pub mod Parts
+pub mod Refusals

@@ -1,0 +1,10 @@
+//! The JSON texts of answers to programs: objects and arrays, and refusals with their places in a text.
+#![tactic(auto)]
+
+mod arrays;
+mod objects;
+mod refusals;
+
+pub use arrays::ArrayText;
+pub use objects::{Member, Value, object_text};
+pub use refusals::{refused, refused_text};

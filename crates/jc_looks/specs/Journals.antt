@@ -1,0 +1,113 @@
+-- The lines of a journal between two positions, and the line of one event.
+use Rattle.std.specs.Prelude.{◌≡◌, ℕ, suc, ◌+◌, ◌-◌, ◌<◌, ◌≤◌, Bool, true, false, List, [], ◌∷◌, length, take, drop, slice_get, Option, Some, None, Result, Ok, Err, codes}
+use Rattle.jc_rules.specs.declared.operation.Event.{Event}
+use Rattle.jc_rules.specs.declared.refusal.Refusal.{Refusal}
+use Rattle.jc_rules.specs.declared.rule.Rule.{Rule}
+use Rattle.jc_rules.specs.Refused.{Cause, IsStuckIn}
+use Rattle.jc_rules.specs.State.{State}
+use Rattle.jc_rules.specs.Step.{Network, StepIn}
+use Rattle.jc_scenario.specs.WellFormed.{Scenario}
+use Rattle.jc_effects.specs.Difference.{Differences}
+use Rattle.jc_journal.specs.EventLine.{AreEffects, event_line}
+use Rattle.jc_journal.specs.StuckLine.{stuck_event_line}
+use Rattle.jc_requests.specs.Asked.{Position}
+use Rattle.jc_answers.specs.JsonTexts.{object_text, array_text, without_lf}
+use Rattle.jc_answers.specs.Refusals.{refusal_answer}
+use Rattle.jc_answers.specs.ReplyTexts.{flag}
+use Rattle.jc_looks.specs.Positions.{all_events, count_of, number_behind, IsAt, StopsAt}
+use Rattle.jc_serve.specs.Marks.{Served}
+use Rattle.jc_looks.specs.Looks.{count_at, unreached_answer}
+
+-- what is asked for in a line, besides: the rules, and the effects
+pub record Details : Type 0 where
+  pub rules : Bool
+  pub effects : Bool
+
+abbrev pub rules_asked : Bool → List (Rule × ℕ) → Option (List (Rule × ℕ))
+rules_asked false rows = None
+rules_asked true rows = Some rows
+
+-- ---- lines
+
+-- the line of the event behind so many, which led its replica from one state to another
+pub record IsMadeLine (details : Details) (s : Scenario) (count : ℕ) (event : Event) (rows : List (Rule × ℕ)) (A B : State)
+    (text : List ℕ) : Type 0 where
+  pub effects : Option Differences
+  pub are_effects : AreEffects details.effects event A B effects
+  pub is : text
+      ≡ without_lf (
+      event_line s.names (number_behind s count).0 (number_behind s count).1 event (rules_asked details.rules rows) effects A
+      B)
+
+-- the line of the event behind so many, which is stuck in the network
+abbrev pub stuck_line_behind : Scenario → ℕ → Network → Cause → Event → List ℕ
+stuck_line_behind s count network why event =
+    without_lf (
+    stuck_event_line s.names (number_behind s count).0 (number_behind s count).1 network.states why event)
+
+-- The lines of these events, made one after another from the network behind so many; that of one that is stuck is the
+-- last.
+pub data AreLines (details : Details) (s : Scenario) : ℕ → Network → List Event → List (List ℕ) → Type 0 where
+  none : {count : ℕ} {network : Network} → AreLines details s count network [] []
+  made : {count : ℕ} {network between : Network} {event : Event} {events : List Event} {text : List ℕ}
+      {texts : List (List ℕ)} {rows : List (Rule × ℕ)} (step : StepIn network event between rows)
+      → IsMadeLine details s count event rows step.step.before step.step.after text
+      → AreLines details s (suc count) between events texts
+      → AreLines details s count network (event ∷ events) (text ∷ texts)
+  stuck : {count : ℕ} {network : Network} {event : Event} {events : List Event} (why : Cause)
+      → IsStuckIn network event why
+      → AreLines details s count network (event ∷ events) (stuck_line_behind s count network why event ∷ [])
+
+-- ---- the answers
+
+-- the events behind the first count, up to the second
+abbrev pub events_between : Scenario → List Event → ℕ → ℕ → List Event
+events_between s schedule first last = take (last - first) (drop first (all_events s schedule))
+
+-- the counts of two positions, of which the first one that isn't there is refused
+abbrev pub counts_of : Result ℕ Refusal → Result ℕ Refusal → Result (ℕ × ℕ) Refusal
+counts_of (Err refusal) last = Err refusal
+counts_of (Ok first) (Err refusal) = Err refusal
+counts_of (Ok first) (Ok last) = Ok (first, last)
+
+-- all events, or those between two positions
+abbrev pub asked_counts : Scenario → List Event → Option (Position × Position) → Result (ℕ × ℕ) Refusal
+asked_counts s schedule None = Ok (0, length (all_events s schedule))
+asked_counts s schedule (Some p) = counts_of (count_of s schedule p.0) (count_of s schedule p.1)
+
+-- What `journal` is answered. Where the first position isn't reached there is no line.
+pub data AnswersJournal
+    (details : Details) (s : Scenario) (schedule : List Event) (asked : Option (Position × Position))
+    : List ℕ → Type 0 where
+  nowhere : {refusal : Refusal}
+      → asked_counts s schedule asked ≡ Err refusal
+      → AnswersJournal details s schedule asked (refusal_answer refusal)
+  unreached : {first last stop : ℕ} {network : Network} {event : Event} {why : Cause}
+      → asked_counts s schedule asked ≡ Ok (first, last)
+      → stop < first
+      → StopsAt s schedule stop network event why
+      → AnswersJournal details s schedule asked (array_text [])
+  lists : {first last : ℕ} {network : Network} {texts : List (List ℕ)}
+      → asked_counts s schedule asked ≡ Ok (first, last)
+      → IsAt s schedule first network
+      → AreLines details s first network (events_between s schedule first last) texts
+      → AnswersJournal details s schedule asked (array_text texts)
+
+-- What `event` is answered from a session.
+pub data AnswersEvent (details : Details) (s : Scenario) (A : Served) (at : Option Position) : List ℕ → Type 0 where
+  nowhere : {refusal : Refusal}
+      → count_at s A at ≡ Err refusal
+      → AnswersEvent details s A at (refusal_answer refusal)
+  first : count_at s A at ≡ Ok 0 → AnswersEvent details s A at (object_text (flag (codes "start")))
+  unreached : {count stop : ℕ} {network : Network} {event : Event} {why : Cause}
+      → count_at s A at ≡ Ok count
+      → stop < count
+      → StopsAt s A.schedule stop network event why
+      → AnswersEvent details s A at (unreached_answer s A stop network why event)
+  tells : {count : ℕ} {network between : Network} {event : Event} {rows : List (Rule × ℕ)} {text : List ℕ}
+      → count_at s A at ≡ Ok (suc count)
+      → IsAt s A.schedule count network
+      → slice_get (all_events s A.schedule) count ≡ Some event
+      → (step : StepIn network event between rows)
+      → IsMadeLine details s count event rows step.step.before step.step.after text
+      → AnswersEvent details s A at text

@@ -1,0 +1,54 @@
+-- The answer to `weave`: how each replica ended, and the events of the schedule that the seed gives.
+use Rattle.std.specs.Prelude.{◌≡◌, ℕ, List, [], ◌∷◌, ◌++◌, Option, Some, None, codes}
+use Rattle.jc_rules.specs.declared.operation.Event.{Event}
+use Rattle.jc_rules.specs.Refusals.{refusal_number, refusal_name}
+use Rattle.jc_rules.specs.Step.{Network}
+use Rattle.jc_printer.specs.Canon.{canon_event}
+use Rattle.jc_scenario.specs.WellFormed.{Scenario}
+use Rattle.jc_json.specs.Json.{tagged_text}
+use Rattle.jc_network.specs.declared.fault.Stuck.{Stuck}
+use Rattle.jc_choice.specs.declared.end.End.{End}
+use Rattle.jc_choice.specs.declared.end.End.TheVariants.{Finished, LimitReached, StuckAt}
+use Rattle.jc_weave.specs.Weaving.{IsWoven, counts_in}
+use Rattle.jc_rules.specs.declared.key.Tagged.{Tagged}
+use Rattle.jc_answers.specs.JsonTexts.{Member, number_member, string_member, object_text, array_text}
+use Rattle.jc_answers.specs.ReplyTexts.{events_answer}
+
+abbrev pub key_if_any : List (List ℕ) → Option Tagged → List Member
+key_if_any names None = []
+key_if_any names (Some k) = string_member (codes "key") (tagged_text names k)
+
+-- how a replica of this name ended, which made so many events
+abbrev pub end_members : List (List ℕ) → List ℕ → ℕ → End → List Member
+end_members names name made Finished =
+    string_member (codes "end") (codes "finished") ++ number_member (codes "made") made
+    ++ string_member (codes "name") name
+end_members names name made LimitReached =
+    string_member (codes "end") (codes "limit") ++ number_member (codes "made") made
+    ++ string_member (codes "name") name
+end_members names name made (StuckAt s) =
+    string_member (codes "cause") (refusal_name s.refusal) ++ string_member (codes "end") (codes "stuck")
+    ++ string_member (codes "event") (canon_event names s.event) ++ key_if_any names s.key
+    ++ number_member (codes "made") made
+    ++ string_member (codes "name") name ++ number_member (codes "stuck") (refusal_number s.refusal)
+
+-- the ends of replicas, by their names and how many events each made
+abbrev pub end_answers : List (List ℕ) → List (List ℕ) → List ℕ → List End → List (List ℕ)
+end_answers all (name ∷ names) (made ∷ counts) (end ∷ ends) =
+    object_text (end_members all name made end) ∷ end_answers all names counts ends
+end_answers all names counts ends = []
+
+abbrev pub woven_answer : List (List ℕ) → List Event → List End → List ℕ
+woven_answer names schedule ends =
+    object_text (
+    (codes "ends", array_text (end_answers names names (counts_in schedule names) ends))
+    ∷ (codes "events", events_answer names schedule)
+    ∷ [])
+
+-- the answer for a seed and a limit
+pub record IsWovenText (s : Scenario) (seed limit : ℕ) (answer : List ℕ) : Type 0 where
+  pub schedule : List Event
+  pub network : Network
+  pub ends : List End
+  pub woven : IsWoven s seed limit schedule network ends
+  pub is : answer ≡ woven_answer s.names schedule ends

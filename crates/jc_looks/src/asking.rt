@@ -1,0 +1,89 @@
+//! What is asked to be shown, by the names of replicas and the texts of expressions.
+
+use crate::fault::LookFault;
+use crate::looks::Look;
+use jc_parser::parse_expr;
+use jc_requests::{Asked, Position};
+use jc_rules::{Refusal, Text};
+use jc_session::number_of;
+use jc_syntax::Expr;
+use std::alloc::Global;
+
+/// The number of the replica with the name.
+pub fn replica_named(alloc: Global, names: &[Text], name: &[u8]) -> Result<u16, LookFault> {
+    match number_of(names, name) {
+        Some(p) => Ok(p),
+        None => Err(LookFault::of(alloc, Refusal::UnknownReplica)),
+    }
+}
+
+/// The replica with the name, if one is named, and else each.
+fn one_or_each(
+    alloc: Global,
+    names: &[Text],
+    name: Option<&[u8]>,
+) -> Result<Option<u16>, LookFault> {
+    match name {
+        Some(name) => Ok(Some(replica_named(alloc, names, name)?)),
+        None => Ok(None),
+    }
+}
+
+/// The replica with the name, and the expression that the text is. The first of these that is none is refused.
+pub fn expression_at(
+    alloc: Global,
+    names: &[Text],
+    name: &[u8],
+    text: &str,
+) -> Result<(u16, Expr), LookFault> {
+    let p = replica_named(alloc, names, name)?;
+    match parse_expr(alloc, text) {
+        Ok(expression) => Ok((p, expression)),
+        Err(fault) => Err(LookFault::of_text(
+            alloc,
+            text.as_bytes(),
+            fault.refusal(),
+            fault.place(),
+        )),
+    }
+}
+
+/// What a request asks to be shown, and at which position, if it asks for something that a look shows. A name that no
+/// replica has is refused, and then a text that is no expression.
+pub fn look_of(
+    alloc: Global,
+    names: &[Text],
+    request: Asked<'_>,
+) -> Result<Option<(Option<Position>, Look)>, LookFault> {
+    match request {
+        Asked::View { at, name } => {
+            let p = one_or_each(alloc, names, name)?;
+            Ok(Some((at, Look::View(p))))
+        }
+        Asked::StateAt { at, name } => {
+            let p = one_or_each(alloc, names, name)?;
+            Ok(Some((Some(at), Look::State(p))))
+        }
+        Asked::Brief { at, name } => {
+            let p = replica_named(alloc, names, name)?;
+            Ok(Some((at, Look::Brief(p))))
+        }
+        Asked::ViewPlace {
+            at,
+            name,
+            expression,
+        } => {
+            let (p, expression) = expression_at(alloc, names, name, expression)?;
+            Ok(Some((at, Look::ViewPlace(p, expression))))
+        }
+        Asked::Eval {
+            at,
+            name,
+            expression,
+        } => {
+            let (p, expression) = expression_at(alloc, names, name, expression)?;
+            Ok(Some((at, Look::Eval(p, expression))))
+        }
+        _ => Ok(None),
+    }
+}

@@ -1,0 +1,117 @@
+//! What is shown of the replicas of a network: views, states and values of expressions.
+
+use crate::fault::{LookFault, without_lf};
+use crate::values::value_of;
+use jc_answers::ArrayText;
+use jc_cursor::Bound;
+use jc_dump::{bound_text, brief_replica, dump_replica};
+use jc_network::Net;
+use jc_syntax::Expr;
+use jc_view::{view_place, view_replica};
+use std::alloc::{AllocError, Global};
+
+/// What is asked to be shown, by the numbers of replicas.
+#[derive(Drop)]
+pub enum Look {
+    /// The view of one replica or of each.
+    View(Option<u16>),
+    /// What is at the place that an expression gives at a replica.
+    ViewPlace(u16, Expr),
+    /// The state of one replica or of each.
+    State(Option<u16>),
+    /// A state without its tree.
+    Brief(u16),
+    /// What an expression gives at a replica.
+    Eval(u16, Expr),
+}
+
+fn view_of(alloc: Global, net: &Net, p: u16) -> Result<Vec<u8>, AllocError> {
+    match view_replica(alloc, net, p) {
+        Ok(line) => Ok(without_lf(line)),
+        Err(_) => Err(AllocError),
+    }
+}
+
+fn state_of(alloc: Global, net: &Net, p: u16) -> Result<Vec<u8>, AllocError> {
+    match dump_replica(alloc, net, p) {
+        Ok(line) => Ok(without_lf(line.into_bytes())),
+        Err(_) => Err(AllocError),
+    }
+}
+
+fn brief_of(alloc: Global, net: &Net, p: u16) -> Result<Vec<u8>, AllocError> {
+    match brief_replica(alloc, net, p) {
+        Ok(text) => Ok(text.into_bytes()),
+        Err(_) => Err(AllocError),
+    }
+}
+
+/// The views of all replicas.
+fn views(alloc: Global, net: &Net) -> Result<Vec<u8>, AllocError> {
+    let mut all = ArrayText::new(alloc)?;
+    let count = net.names().len() as u16;
+    for p in 0..count {
+        let view = view_of(alloc, net, p)?;
+        all.push(view.as_slice())?;
+    }
+    all.end()
+}
+
+/// The states of all replicas.
+fn states(alloc: Global, net: &Net) -> Result<Vec<u8>, AllocError> {
+    let mut all = ArrayText::new(alloc)?;
+    let count = net.names().len() as u16;
+    for p in 0..count {
+        let state = state_of(alloc, net, p)?;
+        all.push(state.as_slice())?;
+    }
+    all.end()
+}
+
+fn bound_answer(alloc: Global, net: &Net, bound: &Bound) -> Result<Vec<u8>, AllocError> {
+    Ok(bound_text(alloc, net.names(), bound)?.into_bytes())
+}
+
+/// What is at a cursor, or else the value.
+fn viewed(alloc: Global, net: &Net, p: u16, bound: &Bound) -> Result<Vec<u8>, AllocError> {
+    let Bound::Cursor(cursor) = bound else {
+        return bound_answer(alloc, net, bound);
+    };
+    match view_place(alloc, net, p, cursor) {
+        Ok(line) => Ok(without_lf(line)),
+        Err(_) => Err(AllocError),
+    }
+}
+
+fn place_shown(
+    alloc: Global,
+    net: &Net,
+    p: u16,
+    expression: &Expr,
+) -> Result<Vec<u8>, LookFault> {
+    let bound = value_of(alloc, net, p, expression)?;
+    Ok(viewed(alloc, net, p, &bound)?)
+}
+
+fn value_shown(
+    alloc: Global,
+    net: &Net,
+    p: u16,
+    expression: &Expr,
+) -> Result<Vec<u8>, LookFault> {
+    let bound = value_of(alloc, net, p, expression)?;
+    Ok(bound_answer(alloc, net, &bound)?)
+}
+
+/// What a look shows of a network. An expression that gives nothing is refused.
+pub fn shown(alloc: Global, net: &Net, look: &Look) -> Result<Vec<u8>, LookFault> {
+    match look {
+        Look::View(None) => Ok(views(alloc, net)?),
+        Look::View(Some(p)) => Ok(view_of(alloc, net, *p)?),
+        Look::State(None) => Ok(states(alloc, net)?),
+        Look::State(Some(p)) => Ok(state_of(alloc, net, *p)?),
+        Look::Brief(p) => Ok(brief_of(alloc, net, *p)?),
+        Look::ViewPlace(p, expression) => place_shown(alloc, net, *p, expression),
+        Look::Eval(p, expression) => value_shown(alloc, net, *p, expression),
+    }
+}

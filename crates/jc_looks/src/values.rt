@@ -1,0 +1,49 @@
+//! What expressions give at a replica, or why they give nothing.
+
+use crate::fault::{LookFault, refused_with};
+use jc_answers::Member;
+use jc_cursor::{Bound, EvalFault, eval};
+use jc_json::tagged_text;
+use jc_network::Net;
+use jc_rules::{Refusal, Tagged, Text, Trace};
+use jc_syntax::Expr;
+use std::alloc::{AllocError, Global};
+
+/// That a node isn't there.
+fn no_node(alloc: Global, names: &[Text], key: &Tagged) -> Result<Vec<u8>, AllocError> {
+    let key = tagged_text(alloc, names, key)?;
+    refused_with(
+        alloc,
+        Member::string("key", key.as_str()),
+        Refusal::NoSuchNode,
+        Member::absent(),
+    )
+}
+
+/// Why an expression gives nothing. Want of memory is no such answer.
+fn no_value(alloc: Global, names: &[Text], fault: &EvalFault) -> Result<Vec<u8>, AllocError> {
+    let refusal = match fault {
+        EvalFault::NoSuchNode(key) => return no_node(alloc, names, key),
+        EvalFault::UnboundVariable => Refusal::UnboundVariable,
+        EvalFault::GetOnHead => Refusal::GetOnHead,
+        EvalFault::NotACursor => Refusal::NotACursor,
+        EvalFault::PastEnd => Refusal::PastEnd,
+        EvalFault::NoMap => Refusal::NoMap,
+        EvalFault::NoRegister => Refusal::NoRegister,
+        EvalFault::TooDeep => Refusal::TooDeep,
+        EvalFault::Memory => return Err(AllocError),
+    };
+    refused_with(alloc, Member::absent(), refusal, Member::absent())
+}
+
+/// What the expression gives at a replica of the network. Where it gives nothing it is refused.
+pub fn value_of(alloc: Global, net: &Net, p: u16, expression: &Expr) -> Result<Bound, LookFault> {
+    let Some(replica) = net.replica(p) else {
+        return Err(LookFault::Memory);
+    };
+    let mut trace = Trace::new(alloc);
+    match eval(alloc, replica.tree(), replica.vars(), expression, &mut trace) {
+        Ok(bound) => Ok(bound),
+        Err(fault) => Err(LookFault::Refused(no_value(alloc, net.names(), &fault)?)),
+    }
+}

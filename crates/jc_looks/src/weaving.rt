@@ -1,0 +1,113 @@
+//! The schedule that a seed gives, and how each replica ended in it.
+
+use jc_answers::{ArrayText, Member, object_text};
+use jc_choice::End;
+use jc_json::tagged_text;
+use jc_network::Stuck;
+use jc_printer::print_event;
+use jc_rules::{Event, Text};
+use jc_scenario::Scenario;
+use jc_weave::weave;
+use std::alloc::{AllocError, Global};
+
+/// A list of the texts of events.
+fn events_answer(alloc: Global, names: &[Text], events: &[Event]) -> Result<Vec<u8>, AllocError> {
+    let mut all = ArrayText::new(alloc)?;
+    for event in events {
+        let text = print_event(alloc, names, event)?;
+        all.push_string(text.as_str())?;
+    }
+    all.end()
+}
+
+/// How a replica ended that got stuck.
+fn stuck_end(
+    alloc: Global,
+    names: &[Text],
+    name: &str,
+    made: u64,
+    stuck: &Stuck,
+) -> Result<Vec<u8>, AllocError> {
+    let event = print_event(alloc, names, &stuck.event)?;
+    let key = match &stuck.key {
+        Some(key) => Some(tagged_text(alloc, names, key)?),
+        None => None,
+    };
+    let key = match &key {
+        Some(key) => Member::string("key", key.as_str()),
+        None => Member::absent(),
+    };
+    object_text(
+        alloc,
+        &[
+            Member::string("cause", stuck.refusal.name()),
+            Member::string("end", "stuck"),
+            Member::string("event", event.as_str()),
+            key,
+            Member::number("made", made),
+            Member::string("name", name),
+            Member::number("stuck", stuck.refusal.number() as u64),
+        ],
+    )
+}
+
+/// How a replica of this name ended, which made so many events.
+fn end_answer(
+    alloc: Global,
+    names: &[Text],
+    name: &str,
+    made: u64,
+    end: &End,
+) -> Result<Vec<u8>, AllocError> {
+    let word = match end {
+        End::Finished => "finished",
+        End::LimitReached => "limit",
+        End::StuckAt(stuck) => return stuck_end(alloc, names, name, made, stuck),
+        End::NoMemory => return Err(AllocError),
+    };
+    object_text(
+        alloc,
+        &[
+            Member::string("end", word),
+            Member::number("made", made),
+            Member::string("name", name),
+        ],
+    )
+}
+
+/// The ends of all replicas.
+fn ends_answer(
+    alloc: Global,
+    names: &[Text],
+    made: &[u64],
+    ends: &[End],
+) -> Result<Vec<u8>, AllocError> {
+    let mut all = ArrayText::new(alloc)?;
+    for p in 0..ends.len() {
+        let end = end_answer(alloc, names, names[p].as_str(), made[p], &ends[p])?;
+        all.push(end.as_slice())?;
+    }
+    all.end()
+}
+
+/// How each replica ended, and the events of the schedule that the seed gives, of so many events at most.
+pub fn woven_answer(
+    alloc: Global,
+    scenario: &Scenario,
+    seed: u64,
+    limit: u64,
+) -> Result<Vec<u8>, AllocError> {
+    let Ok(woven) = weave(alloc, scenario, seed, limit) else {
+        return Err(AllocError);
+    };
+    let names = scenario.names.as_slice();
+    let ends = ends_answer(alloc, names, woven.made.as_slice(), woven.ends.as_slice())?;
+    let events = events_answer(alloc, names, woven.schedule.as_slice())?;
+    object_text(
+        alloc,
+        &[
+            Member::text("ends", ends.as_slice()),
+            Member::text("events", events.as_slice()),
+        ],
+    )
+}

@@ -1,0 +1,4 @@
+pub mod MovesLemmas
+pub mod ShownLemmas
+pub mod RepliesLemmas
+pub mod HereLemmas

@@ -1,0 +1,8 @@
+//! The answers to a session's requests, for programs: JSON where a session has its lines.
+#![tactic(auto)]
+
+mod moves;
+mod replies;
+mod shown;
+
+pub use replies::{answer_of, answer_to};

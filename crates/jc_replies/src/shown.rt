@@ -1,0 +1,185 @@
+//! The answers that show something of the debugger: states, events, a trace.
+
+ghost use Rattle.std.specs.Prelude.{◌≡◌, ℕ, List, [], ◌∷◌, ◌++◌, IfOk, OnOk, All, length, slice_get, Some, map};
+ghost use Rattle.jc_rules.specs.declared.operation.Event.{Event as AnyEvent};
+ghost use Rattle.jc_rules.specs.declared.rule.Rule.{Rule as AnyRule};
+ghost use Rattle.jc_rules.specs.ReplicaNames.{name_at};
+ghost use Rattle.jc_rules.specs.State.{State};
+ghost use Rattle.jc_printer.specs.Canon.{AreNamed, canon_event, quoted};
+ghost use Rattle.jc_network.specs.Enabled.{AreEnabled, candidates};
+ghost use Rattle.jc_session.specs.AnswerOf.{AllNamed, IsTraceReply};
+ghost use Rattle.jc_session.specs.Reply.{Reply as AnyReply};
+ghost use Rattle.jc_answers.specs.JsonTexts.{array_text};
+ghost use Rattle.jc_answers.specs.Parts.{HasItems};
+ghost use Rattle.jc_replies.specs.ReplyTexts.{state_answer, state_answers, events_answer, row_text, trace_answer, compared_answer, IsAnswer};
+ghost use Rattle.jc_replies.specs.AnswerOf.{background_of};
+
+use crate::moves::without_lf;
+use jc_answers::{ArrayText, Member, object_text};
+use jc_debug::Debugger;
+use jc_dump::dump_replica;
+use jc_meaning::Comparison;
+use jc_network::Net;
+use jc_printer::print_event;
+use jc_rules::{Event, Rule, Text};
+use std::alloc::{AllocError, Global};
+
+// ---- states
+
+/// The dump line of a replica of the network, without its LF.
+pub(crate) fn state_of(alloc: Global, net: &Net, p: u16) -> Result<Vec<u8>, AllocError>
+    ensures { IfOk result (λ answer.
+        (A : State) → slice_get net.now.history.now.states p ≡ Some A
+        → answer.items ≡ state_answer net.now.names (name_at net.now.names p) A) }
+{
+    match dump_replica(alloc, net, p) {
+        Ok(dump) => Ok(without_lf(dump.into_bytes())),
+        Err(_) => Err(AllocError),
+    }
+}
+
+/// The dump line of each replica of the network.
+pub(crate) fn states(alloc: Global, net: &Net) -> Result<Vec<u8>, AllocError>
+    ensures { IfOk result (λ answer. answer.items
+        ≡ array_text (state_answers 0 net.now.names net.now.history.now.states)) }
+{
+    let mut list = ArrayText::new(alloc)?;
+    let count = net.names().len() as u16;
+    for p in 0..count {
+        let state = state_of(alloc, net, p)?;
+        list.push(state.as_slice())?;
+    }
+    list.end()
+}
+
+// ---- events
+
+/// Appends the text of an event to the list.
+fn push_event(
+    list: &mut ArrayText,
+    alloc: Global,
+    names: &[Text],
+    event: &Event,
+) -> Result<(), AllocError>
+    requires { AreNamed event.now (length names.now) }
+    ensures { OnOk result ((ts : List (List ℕ))
+        → HasItems list.old ts
+        → HasItems list.new (ts ++ quoted (canon_event names.now event.now) ∷ [])) }
+{
+    let text = print_event(alloc, names, event)?;
+    list.push_string(text.as_str())
+}
+
+/// The texts of events.
+pub(crate) fn events(alloc: Global, names: &[Text], events: &[Event]) -> Result<Vec<u8>, AllocError>
+    requires { All (λ e. AreNamed e (length names.now)) events.now }
+    ensures { IfOk result (λ answer. answer.items ≡ events_answer names.now events.now) }
+{
+    let mut list = ArrayText::new(alloc)?;
+    for event in events {
+        push_event(&mut list, alloc, names, event)?;
+    }
+    list.end()
+}
+
+/// The texts of the events that aren't stuck.
+pub(crate) fn enabled(alloc: Global, net: &Net) -> Result<Vec<u8>, AllocError>
+    ensures { IfOk result (λ answer.
+        (listed : List AnyEvent) → AreEnabled net.now.history.now (candidates net.now.history.now) listed
+        → answer.items ≡ events_answer net.now.names listed) }
+{
+    // Called for its contract: events lead to the network from a start, so each event that can be made names replicas
+    // of the network.
+    net.steps();
+    let enabled = net.enabled()?;
+    events(alloc, net.names(), &enabled)
+}
+
+// ---- traces
+
+/// A rule with its depth before it.
+fn row(alloc: Global, rule: Rule, depth: u64) -> Result<Vec<u8>, AllocError>
+    ensures { IfOk result (λ text. text.items ≡ row_text (rule, depth)) }
+{
+    let mut list = ArrayText::new(alloc)?;
+    list.push_number(depth)?;
+    list.push_string(rule.name())?;
+    list.end()
+}
+
+/// The rules of a trace.
+fn rows_of(alloc: Global, rows: &[(Rule, u64)]) -> Result<Vec<u8>, AllocError>
+    ensures { IfOk result (λ text. text.items ≡ array_text (map row_text rows.now)) }
+{
+    let mut list = ArrayText::new(alloc)?;
+    for (rule, depth) in rows {
+        let text = row(alloc, *rule, *depth)?;
+        list.push(text.as_slice())?;
+    }
+    list.end()
+}
+
+/// An event with its number and its rules.
+fn traced(
+    alloc: Global,
+    names: &[Text],
+    n: u64,
+    event: &Event,
+    rows: &[(Rule, u64)],
+) -> Result<Vec<u8>, AllocError>
+    requires { AreNamed event.now (length names.now) }
+    ensures { IfOk result (λ answer. answer.items ≡ trace_answer names.now n event.now rows.now) }
+{
+    let text = print_event(alloc, names, event)?;
+    let rules = rows_of(alloc, rows)?;
+    object_text(
+        alloc,
+        &[
+            Member::string("event", text.as_str()),
+            Member::number("number", n),
+            Member::text("rules", rules.as_slice()),
+        ],
+    )
+}
+
+/// The event that led to the position with its rules, or that the position is the start.
+pub(crate) fn trace(alloc: Global, debugger: &Debugger) -> Result<Vec<u8>, AllocError>
+    requires { AllNamed debugger.now }
+    ensures { IfOk result (λ answer.
+        (given : List AnyEvent) (text : List ℕ) (r : AnyReply) → IsTraceReply debugger.now r
+        → IsAnswer (background_of given debugger.now) text r answer.items) }
+{
+    let Some(rows) = debugger.trace() else {
+        return object_text(alloc, &[Member::text("start", b"true".as_slice())]);
+    };
+    let n = debugger.position();
+    let event = &debugger.schedule()[n as usize - 1];
+    traced(alloc, debugger.net().names(), n, event, rows)
+}
+
+// ---- comparisons
+
+/// How two replicas compare.
+pub(crate) fn compared(alloc: Global, found: Comparison) -> Result<Vec<u8>, AllocError>
+    ensures { IfOk result (λ answer. answer.items ≡ compared_answer found) }
+{
+    match found {
+        Comparison::SameOps { same_tree: true } => object_text(
+            alloc,
+            &[
+                Member::string("operations", "same"),
+                Member::string("tree", "same"),
+            ],
+        ),
+        Comparison::SameOps { same_tree: false } => object_text(
+            alloc,
+            &[
+                Member::string("operations", "same"),
+                Member::string("tree", "different"),
+            ],
+        ),
+        Comparison::DifferentOps => {
+            object_text(alloc, &[Member::string("operations", "different")])
+        }
+    }
+}

@@ -1,0 +1,4 @@
+pub mod Asked
+pub mod Views
+pub mod Input
+pub mod InputViews

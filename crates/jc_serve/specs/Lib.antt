@@ -1,0 +1,9 @@
+pub mod Positions
+pub mod Marks
+pub mod Looks
+pub mod Journals
+pub mod WovenTexts
+pub mod Places
+pub mod Subjects
+pub mod Answers
+pub mod Serving

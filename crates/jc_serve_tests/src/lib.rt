@@ -1,0 +1,5 @@
+//! Tests of jc_serve: requests as data, and the lines that answer them.
+#![tactic(auto)]
+
+#[cfg(test)]
+mod requests;
