@@ -11,11 +11,10 @@ use Rattle.jc_effects.specs.Difference.{Differences}
 use Rattle.jc_journal.specs.EventLine.{AreEffects, event_line}
 use Rattle.jc_journal.specs.StuckLine.{stuck_event_line}
 use Rattle.jc_requests.specs.Asked.{Position}
-use Rattle.jc_answers.specs.JsonTexts.{object_text, array_text, without_lf}
+use Rattle.jc_answers.specs.JsonTexts.{object_text, array_text}
 use Rattle.jc_answers.specs.Refusals.{refusal_answer}
-use Rattle.jc_answers.specs.ReplyTexts.{flag}
+use Rattle.jc_replies.specs.ReplyTexts.{without_lf, true_member}
 use Rattle.jc_looks.specs.Positions.{all_events, count_of, number_behind, IsAt, StopsAt}
-use Rattle.jc_serve.specs.Marks.{Served}
 use Rattle.jc_looks.specs.Looks.{count_at, unreached_answer}
 
 -- what is asked for in a line, besides: the rules, and the effects
@@ -93,21 +92,24 @@ pub data AnswersJournal
       → AreLines details s first network (events_between s schedule first last) texts
       → AnswersJournal details s schedule asked (array_text texts)
 
--- What `event` is answered from a session.
-pub data AnswersEvent (details : Details) (s : Scenario) (A : Served) (at : Option Position) : List ℕ → Type 0 where
+-- What `event` is answered, where one stands at a position of a schedule.
+pub data AnswersEvent
+    (details : Details) (s : Scenario) (schedule : List Event) (position : ℕ) (at : Option Position)
+    : List ℕ → Type 0 where
   nowhere : {refusal : Refusal}
-      → count_at s A at ≡ Err refusal
-      → AnswersEvent details s A at (refusal_answer refusal)
-  first : count_at s A at ≡ Ok 0 → AnswersEvent details s A at (object_text (flag (codes "start")))
+      → count_at s schedule position at ≡ Err refusal
+      → AnswersEvent details s schedule position at (refusal_answer refusal)
+  first : count_at s schedule position at ≡ Ok 0
+      → AnswersEvent details s schedule position at (object_text (true_member (codes "start")))
   unreached : {count stop : ℕ} {network : Network} {event : Event} {why : Cause}
-      → count_at s A at ≡ Ok count
+      → count_at s schedule position at ≡ Ok count
       → stop < count
-      → StopsAt s A.schedule stop network event why
-      → AnswersEvent details s A at (unreached_answer s A stop network why event)
+      → StopsAt s schedule stop network event why
+      → AnswersEvent details s schedule position at (unreached_answer s schedule stop network why event)
   tells : {count : ℕ} {network between : Network} {event : Event} {rows : List (Rule × ℕ)} {text : List ℕ}
-      → count_at s A at ≡ Ok (suc count)
-      → IsAt s A.schedule count network
-      → slice_get (all_events s A.schedule) count ≡ Some event
+      → count_at s schedule position at ≡ Ok (suc count)
+      → IsAt s schedule count network
+      → slice_get (all_events s schedule) count ≡ Some event
       → (step : StepIn network event between rows)
       → IsMadeLine details s count event rows step.step.before step.step.after text
-      → AnswersEvent details s A at text
+      → AnswersEvent details s schedule position at text

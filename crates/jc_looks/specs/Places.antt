@@ -1,9 +1,9 @@
 -- Where the blocks of a scenario's text are, and in them the commands and events, by the tokens of the text.
-use Rattle.std.specs.Prelude.{◌≡◌, ◌≢◌, ℕ, List, [], ◌∷◌, ◌++◌, map, All, Option, Some, None, codes, decimal}
+use Rattle.std.specs.Prelude.{◌≡◌, ◌≢◌, ℕ, List, [], ◌∷◌, ◌++◌, map, Option, Some, None, codes, decimal}
 use Rattle.jc_syntax.specs.declared.token.Token.{Token}
 use Rattle.jc_syntax.specs.declared.token.TokenKind.TheVariants.{Semi, BraceL, BraceR}
 use Rattle.jc_syntax.specs.Lexemes.{AreTokensOf, token_bytes}
-use Rattle.jc_answers.specs.JsonTexts.{Member, number_member, string_member, object_text, array_text}
+use Rattle.jc_answers.specs.JsonTexts.{NamedText, number_member, string_member, text_member, object_text, array_text}
 
 -- An offset, and the offset behind it up to which something goes.
 abbrev pub Span : Type 0
@@ -13,11 +13,29 @@ abbrev pub stop_of : Token → List Token → ℕ
 stop_of t [] = t.stop
 stop_of t (u ∷ us) = stop_of u us
 
--- The tokens of commands or of events, each with its `;`; none of these has a `;` in it.
+-- The tokens of a command or of an event: no `;` is among them, and of braces those of `{}` alone.
+pub data AreInside : List Token → Type 0 where
+  none : AreInside []
+  other : {t : Token} {rest : List Token}
+      → t.kind ≢ Semi
+      → t.kind ≢ BraceL
+      → t.kind ≢ BraceR
+      → AreInside rest
+      → AreInside (t ∷ rest)
+  braces : {opens closes : Token} {rest : List Token}
+      → opens.kind ≡ BraceL
+      → closes.kind ≡ BraceR
+      → AreInside rest
+      → AreInside (opens ∷ closes ∷ rest)
+
+-- The tokens of commands or of events, with a `;` between each two and at will behind the last.
 pub data AreItems : List Token → List Span → Type 0 where
   none : AreItems [] []
+  last : (first : Token) (more : List Token)
+      → AreInside (first ∷ more)
+      → AreItems (first ∷ more) ((first.start, stop_of first more) ∷ [])
   some : {rest : List Token} {spans : List Span} (first : Token) (more : List Token) (semi : Token)
-      → All (λ t. t.kind ≢ Semi) (first ∷ more)
+      → AreInside (first ∷ more)
       → semi.kind ≡ Semi
       → AreItems rest spans
       → AreItems (first ∷ more ++ semi ∷ rest) ((first.start, stop_of first more) ∷ spans)
@@ -72,15 +90,15 @@ pub data AreBlocks (text : List ℕ) : List Token → List Block → Type 0 wher
 abbrev pub span_answer : Span → List ℕ
 span_answer span = array_text (decimal span.0 ∷ decimal span.1 ∷ [])
 
-abbrev pub name_member : Option (List ℕ) → List Member
+abbrev pub name_member : Option (List ℕ) → List NamedText
 name_member None = []
 name_member (Some name) = string_member (codes "name") name
 
 abbrev pub block_answer : Block → List ℕ
 block_answer b =
     object_text (
-    number_member (codes "end") b.span.1 ++ (codes "items", array_text (map span_answer b.items))
-    ∷ string_member (codes "kind") b.kind ++ name_member b.name ++ number_member (codes "start") b.span.0)
+    number_member (codes "end") b.span.1 ++ text_member (codes "items") (array_text (map span_answer b.items))
+    ++ string_member (codes "kind") b.kind ++ name_member b.name ++ number_member (codes "start") b.span.0)
 
 -- The answer to `places` for the text of a scenario, which has the two tokens of its header before its blocks.
 pub record IsPlaces (text answer : List ℕ) : Type 0 where

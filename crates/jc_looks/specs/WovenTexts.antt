@@ -8,18 +8,18 @@ use Rattle.jc_scenario.specs.WellFormed.{Scenario}
 use Rattle.jc_json.specs.Json.{tagged_text}
 use Rattle.jc_network.specs.declared.fault.Stuck.{Stuck}
 use Rattle.jc_choice.specs.declared.end.End.{End}
-use Rattle.jc_choice.specs.declared.end.End.TheVariants.{Finished, LimitReached, StuckAt}
+use Rattle.jc_choice.specs.declared.end.End.TheVariants.{Finished, LimitReached, StuckAt, NoMemory}
 use Rattle.jc_weave.specs.Weaving.{IsWoven, counts_in}
 use Rattle.jc_rules.specs.declared.key.Tagged.{Tagged}
-use Rattle.jc_answers.specs.JsonTexts.{Member, number_member, string_member, object_text, array_text}
-use Rattle.jc_answers.specs.ReplyTexts.{events_answer}
+use Rattle.jc_answers.specs.JsonTexts.{NamedText, number_member, string_member, text_member, object_text, array_text}
+use Rattle.jc_replies.specs.ReplyTexts.{events_answer}
 
-abbrev pub key_if_any : List (List ℕ) → Option Tagged → List Member
+abbrev pub key_if_any : List (List ℕ) → Option Tagged → List NamedText
 key_if_any names None = []
 key_if_any names (Some k) = string_member (codes "key") (tagged_text names k)
 
 -- how a replica of this name ended, which made so many events
-abbrev pub end_members : List (List ℕ) → List ℕ → ℕ → End → List Member
+abbrev pub end_members : List (List ℕ) → List ℕ → ℕ → End → List NamedText
 end_members names name made Finished =
     string_member (codes "end") (codes "finished") ++ number_member (codes "made") made
     ++ string_member (codes "name") name
@@ -41,9 +41,8 @@ end_answers all names counts ends = []
 abbrev pub woven_answer : List (List ℕ) → List Event → List End → List ℕ
 woven_answer names schedule ends =
     object_text (
-    (codes "ends", array_text (end_answers names names (counts_in schedule names) ends))
-    ∷ (codes "events", events_answer names schedule)
-    ∷ [])
+    text_member (codes "ends") (array_text (end_answers names names (counts_in schedule names) ends))
+    ++ text_member (codes "events") (events_answer names schedule))
 
 -- the answer for a seed and a limit
 pub record IsWovenText (s : Scenario) (seed limit : ℕ) (answer : List ℕ) : Type 0 where
