@@ -11,7 +11,7 @@ from crates import below, crates_at
 from statements import Source, Theory, sum_of
 
 # The parts of the sum of an edit, and what is told where one of them isn't what it was.
-PARTS = {"edit": "the edit", "kit": "the kit or the crate's line of crates.txt",
+PARTS = {"edit": "the edit", "logic": "the kit's logic or the crate's line of crates.txt",
          "own": "the function that it changes, or a proof of that", "reached": "a statement that it can depend on"}
 # How many signs there are of the sum of each part.
 SIGNS = 12
@@ -108,10 +108,10 @@ class Statements:
 
 
 class Tree:
-    """The crates of this checkout or of a copy, and the kit that tries their edits."""
+    """The crates of this checkout or of a copy, and the logic of the kit that tries their edits."""
 
-    def __init__(self, root, kit, kept):
-        self.root, self.kit, self.kept = root, kit, kept
+    def __init__(self, root, logic, kept):
+        self.root, self.logic, self.kept = root, logic, kept
         self.crates = crates_at(root)
 
     def folder(self, name, part=""):
@@ -217,7 +217,7 @@ class Tree:
     def parts(self, name, edit):
         """The sums of what the verdict on an edit stands on."""
         text = text_of(os.path.join(self.folder(name, "more-edits"), f"{edit}.edit"))
-        return {"edit": sum_of(text), "kit": sum_of(self.kit, self.crates[name].line),
+        return {"edit": sum_of(text), "logic": sum_of(self.logic, self.crates[name].line),
                 **self.parts_of(name, [*pairs_of(text)])}
 
     def parts_of(self, name, pairs):

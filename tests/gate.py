@@ -3,6 +3,7 @@ and ./test --built."""
 
 import calendar
 import contextlib
+import itertools
 import os
 import pickle
 import re
@@ -57,7 +58,7 @@ SOURCE = """pub fn one() -> u8
 FILES = {
     "crates.txt": "# low\njc_a:\n# high\njc_b: jc_a thiserror\njc_c: jc_b\n",
     "HANDLES": "Handles allowed: none.\n",
-    "kit": "kit one\n",
+    "kit": "rattle-kit-1a logic 0a\n",
     **{f"crates/{name}/src/lib.rt": SOURCE for name in NAMES},
     **{f"crates/{name}/specs/Lib.antt": "abbrev pub two : N\ntwo = 2\n" for name in NAMES},
     **{f"crates/{name}/proofs/lib/Answers.antt": "pub two : N\ntwo = 2\n" for name in NAMES},
@@ -182,7 +183,6 @@ HOLES = {
                            {"jc_b": BOTH, "jc_c": BOTH}),
     "a crate that crates.txt hasn't": (lambda folder: replace(folder, "crates.txt", "^jc_c: jc_b\n", ""),
                                        {"jc_c": "crates.txt hasn't this crate"}),
-    "another kit": (append("kit"), {name: BOTH for name in NAMES}),
     "a sum by hand": (line_by_hand, {"jc_b": NO_RUN, "jc_c": BOTH}),
     "a shorter line by hand": (short_by_hand, {"jc_b": wanting("one")}),
     "a verdict by hand": (verdict_by_hand, {"jc_b": NO_RUN}),
@@ -500,7 +500,7 @@ WHYS = (
     (lambda folder: replace(folder, C, "≡ 1", "≡ 2"),
      "the function that it changes, or a proof of that and a statement that it can depend on changed"),
     (lambda folder: replace(folder, DEFINITIONS, "^one = 1", "one = 5"), "a statement that it can depend on changed"),
-    (append("kit"), "the kit or the crate's line of crates.txt changed"),
+    (append("kit"), "the kit's logic or the crate's line of crates.txt changed"),
     (lambda folder: write(folder, "crates/jc_c/more-edits/top2.edit", REFUSED), "wasn't tried"),
 )
 
@@ -582,6 +582,33 @@ def hole_case(what):
             expect_end(folder, ["--check"], 1, "", told_of(wrong))
 
     return f"more-edits: --check and {what}", tried
+
+
+# What the kit says of itself when edits are tried and when the record is checked, and whether the verdicts stand.
+KITS = (
+    ("rattle-kit-1a logic 0a", "rattle-kit-1b logic 0a", True),
+    ("rattle-kit-1a logic 0a", "rattle-kit-1a logic 0b", False),
+    ("rattle-kit-1a logic 0a", "rattle-kit-1a logic 0a0a", False),
+    ("rattle-kit-1a logic 0a", "rattle-kit-1a", False),
+    ("rattle-kit-1a logic 0a", "rattle-kit-1b logic 0a more", False),
+    ("rattle-kit-1a", "rattle-kit-1a", True),
+    ("rattle-kit-1a", "rattle-kit-1b", False),
+    ("rattle-kit-1a more logic 0a", "rattle-kit-1b more logic 0a", False),
+)
+
+
+def kit_case(tried_by, checked_by, stands):
+    """The verdicts stand on the kit's logic, whatever its release, and on all that it says where it names none."""
+
+    def tried(_):
+        with crates() as folder:
+            write(folder, "kit", f"{tried_by}\n")
+            expect_end(folder, [], 0, "".join(TRIED.values()))
+            write(folder, "kit", f"{checked_by}\n")
+            wrong = {} if stands else {name: BOTH for name in NAMES}
+            expect_end(folder, ["--check"], int(not stands), "", told_of(wrong) if wrong else "")
+
+    return f"more-edits: --check by {checked_by} of what {tried_by} tried", tried
 
 
 def moved_back(folder):
@@ -864,6 +891,7 @@ def is_built_case(change, lack):
 
 def gate():
     yield from map(hole_case, HOLES)
+    yield from itertools.starmap(kit_case, KITS)
     for row in STATED:
         yield source_case(*row)
     for row in MENTIONED:

@@ -1,6 +1,6 @@
 -- About `Faults`: bytes that are no scenario have a fault.
 use Rattle.std.proofs.Common.{◌≡◌, ◌≢◌, ℕ, zero, suc, ◌≤◌, ◌<◌, ◌⊎◌, inl, inr, List, [], ◌∷◌, ◌++◌, map, length, get_or, refl, sym, ap, subst, ◌∙◌, arith}
-use Rattle.std.specs.List.{AllPairs, Contains, insert}
+use Rattle.std.specs.List.{All, AllPairs, Contains, insert}
 use Rattle.std.specs.Str.{IsUtf8, bytes_eq, is_utf8}
 use Rattle.std.specs.Str.Lossy.{utf8_valid_len}
 use Rattle.std.specs.declared.cmp.Ordering.{Ordering}
@@ -27,12 +27,14 @@ use Rattle.jc_syntax.specs.declared.token.Token.{Token}
 use Rattle.jc_syntax.specs.declared.tree.Named.{Named}
 use Rattle.jc_syntax.specs.declared.tree.NamedEvent.{NamedEvent}
 use Rattle.jc_syntax.specs.declared.tree.NamedEvent.TheVariants as N
-use Rattle.jc_syntax.specs.Lexemes.{AreTokensOf, IsFaultOf}
+use Rattle.jc_syntax.specs.Lexemes.{AreTokensOf, IsTokenOf, IsFaultOf}
+use Rattle.jc_syntax.proofs.LexemesLemmas.{each_token}
 use Rattle.jc_parser.specs.declared.fault.ScenarioFault.{ScenarioFault}
 use Rattle.jc_parser.specs.declared.fault.ScenarioFault.TheVariants.{TextTooLong, NotUtf8, UnknownReplica}
 use Rattle.jc_parser.specs.Events.{Call, executes, sends, receives, takes, applies, ends, call_of}
 use Rattle.jc_parser.specs.Faults.{from_lexer}
 use Rattle.jc_parser.specs.LegalSymbols.{call_by}
+use Rattle.jc_parser.specs.LegalSymbolLaws.{LegalScenarios}
 use Rattle.jc_parser.specs.ReaderState.{Reading, reading_of}
 use Rattle.jc_parser.specs.Scenarios.{Part, NamedTree, name_of_part, IsNamedTree}
 use Rattle.jc_parser.specs.ScenarioLaws.{NamedTreeElseFault}
@@ -196,9 +198,9 @@ arranged (p ∷ ps) apart = by_rest (arranged ps (λ i j d less inside. apart (s
 
 -- ---- tokens
 
-scenario_or_stranger : (r : Reading) (t : NamedTree) → IsNamedTree r t → ((s : Scenario) × AreScenario r s) ⊎ ((fault : ScenarioFault) × IsStranger r fault)
-scenario_or_stranger r t named =
-    let (ns, ss, a) = arranged t.parts named.within.parts.apart in
+scenario_or_stranger : (r : Reading) (t : NamedTree) → IsNamedTree r t → Apart t.parts → ((s : Scenario) × AreScenario r s) ⊎ ((fault : ScenarioFault) × IsStranger r fault)
+scenario_or_stranger r t named apart =
+    let (ns, ss, a) = arranged t.parts apart in
     elim (known_or_strange ns (all_names_in (t.given ++ t.events))) [
       | inl known ↦
           let (own, rest) = known_parts ns (all_names_in t.given) (all_names_in t.events) (subst (AreKnown ns) (both_lists t.given t.events) known) in
@@ -208,12 +210,12 @@ scenario_or_stranger r t named =
       | inr (at, first) ↦ inr (UnknownReplica at, stranger_read r t ns ss at named a first)
     ]
 
-among : NamedTreeElseFault → (r : Reading) → ((s : Scenario) × AreScenario r s) ⊎ ((fault : ScenarioFault) × IsFaultAmong r fault)
-among parsed r =
+among : NamedTreeElseFault → (r : Reading) → ((t : NamedTree) → IsNamedTree r t → Apart t.parts) → ((s : Scenario) × AreScenario r s) ⊎ ((fault : ScenarioFault) × IsFaultAmong r fault)
+among parsed r apart =
     elim (parsed r) [
       | inr (fault, is) ↦ inr (fault, inl is)
       | inl (t, named) ↦
-          elim (scenario_or_stranger r t named) [
+          elim (scenario_or_stranger r t named (apart t named)) [
             | inl (s, is) ↦ inl (s, is)
             | inr (fault, is) ↦ inr (fault, inr is)
           ]
@@ -231,16 +233,22 @@ utf8_or_not bytes =
 abbrev EachHasTokens : Type 0
 EachHasTokens = (text : List ℕ) → ((ts : List Token) × AreTokensOf text ts) ⊎ ((e : LexFault) × IsFaultOf text e)
 
-pub scenario_else_fault : EachHasTokens → NamedTreeElseFault → ScenarioElseFault
-scenario_else_fault lexed parsed bytes = by_length 8388608 refl
+pub scenario_else_fault : EachHasTokens → NamedTreeElseFault → LegalScenarios → ScenarioElseFault
+scenario_else_fault lexed parsed legal bytes = by_length 8388608 refl
   where
+    each : (ts : List Token) → AreTokensOf bytes ts → All (IsTokenOf bytes) ts
+    each ts (room, place, are, ended) = each_token bytes 0 place ts room are
+
+    apart : IsUtf8 bytes → (ts : List Token) → AreTokensOf bytes ts → (t : NamedTree) → IsNamedTree (reading_of bytes ts) t → Apart t.parts
+    apart valid ts are t named = (legal bytes ts t valid (each ts are) named).0.parts.apart
+
     by_utf8 : length bytes ≤ 8388608 → IsUtf8 bytes ⊎ (IsUtf8 bytes → ⊥) → ((s : Scenario) × IsScenario bytes s) ⊎ ((fault : ScenarioFault) × IsFault bytes fault)
     by_utf8 room (inr none) = inr (NotUtf8 (utf8_valid_len bytes), inr (room, inl (none, refl)))
     by_utf8 room (inl valid) =
         elim (lexed bytes) [
           | inr (e, is) ↦ inr (from_lexer e, inr (room, inr (valid, inl (e, is, refl))))
           | inl (ts, are) ↦
-              elim (among parsed (reading_of bytes ts)) [
+              elim (among parsed (reading_of bytes ts) (apart valid ts are)) [
                 | inl (s, is) ↦ inl (s, record { valid = valid; tokens = ts; lexed = are; scenario = is })
                 | inr (fault, is) ↦ inr (fault, inr (room, inr (valid, inr (ts, are, is))))
               ]

@@ -30,6 +30,7 @@ pub fn scenario_else_fault()
 {
     lexemes::tokens_else_fault();
     sentences::named_tree_else_fault();
+    sentences::legal_scenarios();
 }
 
 /// Bytes have one fault at most: its number and its place are determined.

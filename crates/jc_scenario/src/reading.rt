@@ -12,7 +12,7 @@ use crate::laws;
 use crate::names::resolve;
 use crate::order::arranged;
 use crate::scenario::Scenario;
-use jc_parser::{NamedScenario, ScenarioFault, scenario_of};
+use jc_parser::{NamedScenario, ScenarioFault, laws as sentences, scenario_of};
 use jc_rules::limits::MAX_TEXT;
 use jc_rules::{Event, Text};
 use jc_syntax::{NamedEvent, Token, lex};
@@ -42,6 +42,8 @@ fn scenario(alloc: Global, text: &str, tokens: &[Token]) -> Result<Scenario, Sce
     ensures scenario { IfOk result (λ s. AreScenario (reading_of text.now tokens.now) (scenario_view s)) }
     ensures fault { IfErr result (λ e. e ≢ ScenarioFault.Memory → IsFaultAmong (reading_of text.now tokens.now) e) }
 {
+    // By this law what is parsed keeps the limits, and no two of its replicas have one name.
+    sentences::legal_scenarios();
     let NamedScenario {
         version,
         replicas,

@@ -1,4 +1,5 @@
-use Rattle.std.proofs.Common.{map, inr}
+use Rattle.std.proofs.Common.{rules, map, inr}
+use Rattle.std.specs.Str.{IsUtf8}
 use Rattle.std.proofs.lemmas.Result.{err_from_is_err_and}
 use Rattle.jc_syntax.specs.Trees.{cmd_of}
 use Rattle.jc_parser.specs.ReaderState.{reading_of}
@@ -8,12 +9,21 @@ use Rattle.jc_scenario.proofs.ResolvedLemmas.{in_order, few_names, scenario_read
 use Rattle.jc_scenario.proofs.UnknownNamesLemmas.{first_given, first_scheduled}
 use Rattle.jc_scenario.proofs.reading.scenario.Goals as goal
 
+pub arranged-requires : goal.arranged-requires
+arranged-requires c =
+    let t = tree_view c.in_ok-version.field-0 in
+    let valid : IsUtf8 c.args.text.now = search rules in
+    let within = (c.legal_scenarios.ensures c.args.text.now c.args.tokens.now t valid c.requires c.in_ok-version.ensures.tree).0 in
+    record { apart = within.parts.apart }
+
 pub resolved-requires : goal.resolved-requires
 resolved-requires c =
     let d = c.in_ok-names.ensures in
     let t = tree_view c.in_ok-version.field-0 in
+    let valid : IsUtf8 c.args.text.now = search rules in
+    let within = (c.legal_scenarios.ensures c.args.text.now c.args.tokens.now t valid c.requires c.in_ok-version.ensures.tree).0 in
     let a = in_order (λ script. map cmd_of script.items) t.parts c.in_ok-names.names.items c.in_ok-names.scripts.items d.rising d.each d.same in
-    record { few = rw c.deref.ensures.value (few_names t.parts c.in_ok-names.names.items (scripts_view c.in_ok-names.scripts.items) a c.in_ok-version.ensures.tree.within.parts.few) }
+    record { few = rw c.deref.ensures.value (few_names t.parts c.in_ok-names.names.items (scripts_view c.in_ok-names.scripts.items) a within.parts.few) }
 
 pub returns-in_err-given-clause-fault : goal.returns-in_err-given-clause-fault
 returns-in_err-given-clause-fault c =
@@ -31,8 +41,10 @@ pub resolved-requires-2 : goal.resolved-requires-2
 resolved-requires-2 c =
     let d = c.in_ok-names.ensures in
     let t = tree_view c.in_ok-version.field-0 in
+    let valid : IsUtf8 c.args.text.now = search rules in
+    let within = (c.legal_scenarios.ensures c.args.text.now c.args.tokens.now t valid c.requires c.in_ok-version.ensures.tree).0 in
     let a = in_order (λ script. map cmd_of script.items) t.parts c.in_ok-names.names.items c.in_ok-names.scripts.items d.rising d.each d.same in
-    record { few = rw c.deref-3.ensures.value (few_names t.parts c.in_ok-names.names.items (scripts_view c.in_ok-names.scripts.items) a c.in_ok-version.ensures.tree.within.parts.few) }
+    record { few = rw c.deref-3.ensures.value (few_names t.parts c.in_ok-names.names.items (scripts_view c.in_ok-names.scripts.items) a within.parts.few) }
 
 pub returns-in_err-schedule-clause-fault : goal.returns-in_err-schedule-clause-fault
 returns-in_err-schedule-clause-fault c =
