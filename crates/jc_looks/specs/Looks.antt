@@ -1,5 +1,5 @@
 -- What is shown of the replicas of a network, whichever position that is at, and at which position one looks.
-use Rattle.std.specs.Prelude.{◌≡◌, ℕ, suc, ◌+◌, ◌-◌, ◌<◌, List, [], ◌∷◌, ◌++◌, length, slice_get, Option, Some, None, Result, Ok, Err, codes}
+use Rattle.std.specs.Prelude.{◌≡◌, ℕ, suc, ◌+◌, ◌-◌, ◌<◌, ◌⊎◌, List, [], ◌∷◌, ◌++◌, length, slice_get, Option, Some, None, Result, Ok, Err, codes}
 use Rattle.jc_rules.specs.declared.operation.Cursor.{Cursor}
 use Rattle.jc_rules.specs.declared.operation.Event.{Event}
 use Rattle.jc_rules.specs.declared.refusal.Refusal.{Refusal}
@@ -9,7 +9,8 @@ use Rattle.jc_rules.specs.ReplicaNames.{name_at}
 use Rattle.jc_rules.specs.State.{State, Bound, ACursor, Names, Pairs}
 use Rattle.jc_rules.specs.Step.{Network}
 use Rattle.jc_rules.specs.Syntax.{Expr}
-use Rattle.jc_rules.specs.Trace.{Rows, no_rows}
+use Rattle.jc_rules.specs.Trace.{Rows}
+use Rattle.jc_syntax.specs.declared.tree.Expr.{Expr as AnyExpr}
 use Rattle.jc_syntax.specs.Trees.{expr_of}
 use Rattle.jc_parser.specs.declared.fault.ScenarioFault.{ScenarioFault}
 use Rattle.jc_parser.specs.Expressions.{IsExpressionOf, IsExpressionFault}
@@ -24,32 +25,14 @@ use Rattle.jc_session.specs.Answers.{IsNamed, IsStrange}
 use Rattle.jc_session.specs.Requests.{Word}
 use Rattle.jc_requests.specs.Asked as K
 use Rattle.jc_requests.specs.Asked.{Asked, Position}
+use Rattle.jc_requests.specs.declared.kinds.Position.{Position as AnyPosition}
+use Rattle.jc_requests.specs.Views.{at_view}
 use Rattle.jc_answers.specs.JsonTexts.{NamedText, string_member, array_text}
 use Rattle.jc_answers.specs.Refusals.{refused_object, refusal_members, refusal_answer, IsRefusedText}
 use Rattle.jc_replies.specs.ReplyTexts.{Background, without_lf, state_answer, state_answers, stuck_member, move_answer}
-use Rattle.jc_looks.specs.declared.looks.Look.{Look as AnyLook}
+use Rattle.jc_looks.specs.declared.looks.Look.{Look}
 use Rattle.jc_looks.specs.declared.looks.Look.TheVariants as L
 use Rattle.jc_looks.specs.Positions.{count_of, IsAt, StopsAt}
-
--- ---- looks
-
--- The view of one replica or of each; what is shown at a place; the state of one replica or of each; a state without its
--- tree; what an expression gives. Words are names of replicas.
-pub data Look : Type 0 where
-  view : Option Word → Look
-  view_place : Word → List ℕ → Look
-  state : Option Word → Look
-  brief : Word → Look
-  eval : Word → List ℕ → Look
-
--- the look that a request is, and its position
-abbrev pub look_of : Asked → Option (Option Position × Look)
-look_of (K.view at name) = Some (at, view name)
-look_of (K.view_place at name text) = Some (at, view_place name text)
-look_of (K.state_at at name) = Some (Some at, state name)
-look_of (K.brief at name) = Some (at, brief name)
-look_of (K.eval at name text) = Some (at, eval name text)
-look_of request = None
 
 -- ---- texts
 
@@ -65,6 +48,9 @@ abbrev pub place_answer : List (List ℕ) → List ℕ → State → Cursor → 
 place_answer names name A cursor = without_lf (place_line names name A cursor)
 
 -- ---- values of expressions
+
+abbrev pub no_rows : Rows
+no_rows = record { rows = []; depth = 0 }
 
 -- the expression gives this in the state
 abbrev pub Gives : State → Expr → Bound → Type 0
@@ -85,102 +71,112 @@ viewed names name A (ACursor cursor) = place_answer names name A cursor
 viewed names name A (Names keys) = bound_text names (Names keys)
 viewed names name A (Pairs pairs) = bound_text names (Pairs pairs)
 
--- ---- what a look shows
+-- What is shown of an expression in a state: a text of what it gives, or why it gives nothing.
+abbrev pub ShowsValue : (Bound → List ℕ) → List (List ℕ) → State → Expr → List ℕ → Type 0
+ShowsValue text names A e answer =
+    ((b : Bound) × Gives A e b × (answer ≡ text b))
+    ⊎ ((why : Cause) × IsEvalRefused A.tree A.vars e why × (answer ≡ no_value_answer names why))
 
--- the replica of the name is in this state
-pub record IsStateOf (names : List (List ℕ)) (states : List State) (name : Word) (A : State) : Type 0 where
-  pub number : ℕ
-  pub named : IsNamed names name number
-  pub is : slice_get states number ≡ Some A
+-- ---- looks
+
+-- replica p is there, and its state has this
+abbrev pub OfReplica : List State → ℕ → (State → Type 0) → Type 0
+OfReplica states p has = (A : State) × (slice_get states p ≡ Some A) × has A
 
 -- What a look shows of the states of the replicas with these names.
-pub data Shows (names : List (List ℕ)) (states : List State) : Look → List ℕ → Type 0 where
-  views : Shows names states (view None) (array_text (view_answers 0 names states))
-  view_of : {name : Word} {A : State}
-      → IsStateOf names states name A
-      → Shows names states (view (Some name)) (view_answer names name A)
-  view_at : {name : Word} {text : List ℕ} {A : State} {b : Bound} (e : Expr)
-      → IsStateOf names states name A
-      → IsExpressionOf text e
-      → Gives A e b
-      → Shows names states (view_place name text) (viewed names name A b)
-  no_view_at : {name : Word} {text : List ℕ} {A : State} {why : Cause} (e : Expr)
-      → IsStateOf names states name A
-      → IsExpressionOf text e
-      → IsEvalRefused A.tree A.vars e why
-      → Shows names states (view_place name text) (no_value_answer names why)
-  dumps : Shows names states (state None) (array_text (state_answers 0 names states))
-  dump_of : {name : Word} {A : State}
-      → IsStateOf names states name A
-      → Shows names states (state (Some name)) (state_answer names name A)
-  brief_of : {name : Word} {A : State}
-      → IsStateOf names states name A
-      → Shows names states (brief name) (brief_text names name A)
-  value_of : {name : Word} {text : List ℕ} {A : State} {b : Bound} (e : Expr)
-      → IsStateOf names states name A
-      → IsExpressionOf text e
-      → Gives A e b
-      → Shows names states (eval name text) (bound_text names b)
-  no_value_of : {name : Word} {text : List ℕ} {A : State} {why : Cause} (e : Expr)
-      → IsStateOf names states name A
-      → IsExpressionOf text e
-      → IsEvalRefused A.tree A.vars e why
-      → Shows names states (eval name text) (no_value_answer names why)
+abbrev pub Shows : List (List ℕ) → List State → Look → List ℕ → Type 0
+Shows names states (L.View None) answer = answer ≡ array_text (view_answers 0 names states)
+Shows names states (L.View (Some p)) answer =
+    OfReplica states p (λ A. answer ≡ view_answer names (name_at names p) A)
+Shows names states (L.ViewPlace p e) answer =
+    OfReplica states p (λ A. ShowsValue (viewed names (name_at names p) A) names A (expr_of e) answer)
+Shows names states (L.State None) answer = answer ≡ array_text (state_answers 0 names states)
+Shows names states (L.State (Some p)) answer =
+    OfReplica states p (λ A. answer ≡ state_answer names (name_at names p) A)
+Shows names states (L.Brief p) answer = OfReplica states p (λ A. answer ≡ brief_text names (name_at names p) A)
+Shows names states (L.Eval p e) answer =
+    OfReplica states p (λ A. ShowsValue (bound_text names) names A (expr_of e) answer)
 
-abbrev pub name_in : Look → Option Word
-name_in (view name) = name
-name_in (view_place name text) = Some name
-name_in (state name) = name
-name_in (brief name) = Some name
-name_in (eval name text) = Some name
+-- the replicas of a look are among so many
+abbrev pub IsWithin : ℕ → Look → Type 0
+IsWithin n (L.View (Some p)) = p < n
+IsWithin n (L.ViewPlace p e) = p < n
+IsWithin n (L.State (Some p)) = p < n
+IsWithin n (L.Brief p) = p < n
+IsWithin n (L.Eval p e) = p < n
+IsWithin n look = Unit {0}
 
-abbrev pub expression_in : Look → Option (List ℕ)
-expression_in (view_place name text) = Some text
-expression_in (eval name text) = Some text
-expression_in look = None
+-- ---- what requests ask to be shown
 
--- A replica's name and an expression's text are refused: the name is no replica's, or else the text is no expression.
-pub data IsBadExpression (names : List (List ℕ)) (name : Word) (text : List ℕ) : List ℕ → Type 0 where
-  strange : IsStrange names name → IsBadExpression names name text (refusal_answer UnknownReplica)
-  misspelled : {answer : List ℕ} {p place : ℕ} {refusal : Refusal} (fault : ScenarioFault)
-      → IsNamed names name p
-      → IsExpressionFault text fault
-      → fault_refusal fault ≡ Some refusal
-      → fault_offset fault ≡ Some place
-      → IsRefusedText text refusal place answer
-      → IsBadExpression names name text answer
-
--- Its name is no replica's, or else its expression is none.
-pub data IsBadLook (names : List (List ℕ)) (look : Look) : List ℕ → Type 0 where
-  strange : {name : Word}
-      → name_in look ≡ Some name
-      → IsStrange names name
-      → IsBadLook names look (refusal_answer UnknownReplica)
-  misspelled : {name : Word} {text answer : List ℕ}
-      → name_in look ≡ Some name
-      → expression_in look ≡ Some text
-      → IsBadExpression names name text answer
-      → IsBadLook names look answer
-
-abbrev pub IsGoodLook : List (List ℕ) → Look → Type 0
-IsGoodLook names look = (answer : List ℕ) → IsBadLook names look answer → ⊥
-
--- ---- looks in memory
-
--- the replica of this name has this number, or each is meant
+-- the replica of this name has this number; without a name each is meant
 abbrev pub IsOneOrEach : List (List ℕ) → Option Word → Option ℕ → Type 0
 IsOneOrEach names None p = p ≡ None
 IsOneOrEach names (Some name) p = (number : ℕ) × (p ≡ Some number) × IsNamed names name number
 
--- the look for which one in memory stands, by the numbers of replicas
-abbrev pub IsLook : List (List ℕ) → Look → AnyLook → Type 0
-IsLook names (view name) look = (p : Option ℕ) × (look ≡ L.View p) × IsOneOrEach names name p
-IsLook names (state name) look = (p : Option ℕ) × (look ≡ L.State p) × IsOneOrEach names name p
-IsLook names (brief name) look = (p : ℕ) × (look ≡ L.Brief p) × IsNamed names name p
-IsLook names (view_place name text) look =
-    (p : ℕ) × (e : _) × (look ≡ L.ViewPlace p e) × IsNamed names name p × IsExpressionOf text (expr_of e)
-IsLook names (eval name text) look =
-    (p : ℕ) × (e : _) × (look ≡ L.Eval p e) × IsNamed names name p × IsExpressionOf text (expr_of e)
+-- the replica of the name has this number, and the text is this expression
+abbrev pub IsExpressionAt : List (List ℕ) → Word → List ℕ → ℕ × AnyExpr → Type 0
+IsExpressionAt names name text found = IsNamed names name found.0 × IsExpressionOf text (expr_of found.1)
+
+-- the request asks for something that a look shows
+abbrev pub IsLookRequest : Asked → Type 0
+IsLookRequest (K.view at name) = Unit {0}
+IsLookRequest (K.view_place at name text) = Unit {0}
+IsLookRequest (K.state_at at name) = Unit {0}
+IsLookRequest (K.brief at name) = Unit {0}
+IsLookRequest (K.eval at name text) = Unit {0}
+IsLookRequest request = ⊥
+
+-- The request asks for this look at this position.
+abbrev pub AsksLook : List (List ℕ) → Asked → Option Position → Look → Type 0
+AsksLook names (K.view at name) position look =
+    (position ≡ at) × (p : Option ℕ) × (look ≡ L.View p) × IsOneOrEach names name p
+AsksLook names (K.view_place at name text) position look =
+    (position ≡ at) × (found : ℕ × AnyExpr) × (look ≡ L.ViewPlace found.0 found.1) × IsExpressionAt names name text found
+AsksLook names (K.state_at at name) position look =
+    (position ≡ Some at) × (p : Option ℕ) × (look ≡ L.State p) × IsOneOrEach names name p
+AsksLook names (K.brief at name) position look = (position ≡ at) × (p : ℕ) × (look ≡ L.Brief p) × IsNamed names name p
+AsksLook names (K.eval at name text) position look =
+    (position ≡ at) × (found : ℕ × AnyExpr) × (look ≡ L.Eval found.0 found.1) × IsExpressionAt names name text found
+AsksLook names request position look = ⊥
+
+-- no replica has the name, and so the request is refused
+abbrev pub IsStrangeAnswer : List (List ℕ) → Word → List ℕ → Type 0
+IsStrangeAnswer names name answer = IsStrange names name × (answer ≡ refusal_answer UnknownReplica)
+
+-- A replica has the name, and the text is no expression.
+pub record IsMisspelledAnswer (names : List (List ℕ)) (name : Word) (text answer : List ℕ) : Type 0 where
+  pub number : ℕ
+  pub named : IsNamed names name number
+  pub fault : ScenarioFault
+  pub refusal : Refusal
+  pub place : ℕ
+  pub is_fault : IsExpressionFault text fault
+  pub is_refusal : fault_refusal fault ≡ Some refusal
+  pub is_place : fault_offset fault ≡ Some place
+  pub written : IsRefusedText text refusal place answer
+
+-- a replica's name and an expression's text are refused, by the first of them that is none
+abbrev pub IsBadExpression : List (List ℕ) → Word → List ℕ → List ℕ → Type 0
+IsBadExpression names name text answer = IsStrangeAnswer names name answer ⊎ IsMisspelledAnswer names name text answer
+
+-- where there is a name, no replica has it
+abbrev pub IsBadName : List (List ℕ) → Option Word → List ℕ → Type 0
+IsBadName names None answer = ⊥
+IsBadName names (Some name) answer = IsStrangeAnswer names name answer
+
+-- the request asks for a look, and its name or its expression is refused
+abbrev pub IsBadLook : List (List ℕ) → Asked → List ℕ → Type 0
+IsBadLook names (K.view at name) answer = IsBadName names name answer
+IsBadLook names (K.view_place at name text) answer = IsBadExpression names name text answer
+IsBadLook names (K.state_at at name) answer = IsBadName names name answer
+IsBadLook names (K.brief at name) answer = IsStrangeAnswer names name answer
+IsBadLook names (K.eval at name text) answer = IsBadExpression names name text answer
+IsBadLook names request answer = ⊥
+
+-- what was found of a request: the look, and at which position; or that it asks for none
+abbrev pub IsFoundLook : List (List ℕ) → Asked → Option (Option AnyPosition × Look) → Type 0
+IsFoundLook names request None = IsLookRequest request → ⊥
+IsFoundLook names request (Some found) = AsksLook names request (at_view found.0) found.1
 
 -- ---- at a position
 
@@ -200,22 +196,22 @@ unreached_answer s schedule count network why event =
     let B = background s schedule network.states in
     move_answer B (count - length s.given) [] (stuck_member B (count - length s.given) why event)
 
--- What is answered to a look, where one stands at a position of a schedule.
-pub data LooksFrom (s : Scenario) (schedule : List Event) (position : ℕ) (at : Option Position) (look : Look)
-    : List ℕ → Type 0 where
-  bad : {answer : List ℕ} → IsBadLook s.names look answer → LooksFrom s schedule position at look answer
-  nowhere : {refusal : Refusal}
-      → IsGoodLook s.names look
+-- What is answered to a request for a look, where one stands at a position of a schedule.
+pub data AnswersLook (s : Scenario) (schedule : List Event) (position : ℕ) (request : Asked) : List ℕ → Type 0 where
+  bad : {answer : List ℕ} → IsBadLook s.names request answer → AnswersLook s schedule position request answer
+  nowhere : {at : Option Position} {look : Look} {refusal : Refusal}
+      → AsksLook s.names request at look
       → count_at s schedule position at ≡ Err refusal
-      → LooksFrom s schedule position at look (refusal_answer refusal)
-  unreached : {count stop : ℕ} {event : Event} {why : Cause} (network : Network)
-      → IsGoodLook s.names look
+      → AnswersLook s schedule position request (refusal_answer refusal)
+  unreached : {at : Option Position} {look : Look} {count stop : ℕ} {event : Event} {why : Cause} (network : Network)
+      → AsksLook s.names request at look
       → count_at s schedule position at ≡ Ok count
       → stop < count
       → StopsAt s schedule stop network event why
-      → LooksFrom s schedule position at look (unreached_answer s schedule stop network why event)
-  shows : {count : ℕ} {answer : List ℕ} (network : Network)
+      → AnswersLook s schedule position request (unreached_answer s schedule stop network why event)
+  shows : {at : Option Position} {look : Look} {count : ℕ} {answer : List ℕ} (network : Network)
+      → AsksLook s.names request at look
       → count_at s schedule position at ≡ Ok count
       → IsAt s schedule count network
       → Shows s.names network.states look answer
-      → LooksFrom s schedule position at look answer
+      → AnswersLook s schedule position request answer

@@ -1,5 +1,12 @@
 //! What is asked to be shown, by the names of replicas and the texts of expressions.
 
+ghost use Rattle.std.specs.Prelude.{◌≤◌, length};
+ghost use Rattle.jc_rules.specs.declared.limits.TheConstants.{MAX_REPLICAS};
+ghost use Rattle.jc_session.specs.Answers.{IsNamed};
+ghost use Rattle.jc_requests.specs.Views.{asked_view, word_view};
+ghost use Rattle.jc_looks.specs.LookFaults.{Finds};
+ghost use Rattle.jc_looks.specs.Looks.{IsOneOrEach, IsExpressionAt, IsStrangeAnswer, IsBadName, IsBadExpression, IsBadLook, IsFoundLook};
+
 use crate::fault::LookFault;
 use crate::looks::Look;
 use jc_parser::parse_expr;
@@ -10,7 +17,10 @@ use jc_syntax::Expr;
 use std::alloc::Global;
 
 /// The number of the replica with the name.
-pub fn replica_named(alloc: Global, names: &[Text], name: &[u8]) -> Result<u16, LookFault> {
+pub fn replica_named(alloc: Global, names: &[Text], name: &[u8]) -> Result<u16, LookFault>
+    requires { length names.now ≤ MAX_REPLICAS }
+    ensures { Finds (IsNamed names.now name.now) (IsStrangeAnswer names.now name.now) result }
+{
     match number_of(names, name) {
         Some(p) => Ok(p),
         None => Err(LookFault::of(alloc, Refusal::UnknownReplica)),
@@ -22,7 +32,10 @@ fn one_or_each(
     alloc: Global,
     names: &[Text],
     name: Option<&[u8]>,
-) -> Result<Option<u16>, LookFault> {
+) -> Result<Option<u16>, LookFault>
+    requires { length names.now ≤ MAX_REPLICAS }
+    ensures { Finds (IsOneOrEach names.now (word_view name.entry)) (IsBadName names.now (word_view name.entry)) result }
+{
     match name {
         Some(name) => Ok(Some(replica_named(alloc, names, name)?)),
         None => Ok(None),
@@ -35,7 +48,10 @@ pub fn expression_at(
     names: &[Text],
     name: &[u8],
     text: &str,
-) -> Result<(u16, Expr), LookFault> {
+) -> Result<(u16, Expr), LookFault>
+    requires { length names.now ≤ MAX_REPLICAS }
+    ensures { Finds (IsExpressionAt names.now name.now text.now) (IsBadExpression names.now name.now text.now) result }
+{
     let p = replica_named(alloc, names, name)?;
     match parse_expr(alloc, text) {
         Ok(expression) => Ok((p, expression)),
@@ -54,7 +70,11 @@ pub fn look_of(
     alloc: Global,
     names: &[Text],
     request: Asked<'_>,
-) -> Result<Option<(Option<Position>, Look)>, LookFault> {
+) -> Result<Option<(Option<Position>, Look)>, LookFault>
+    requires { length names.now ≤ MAX_REPLICAS }
+    ensures { Finds (IsFoundLook names.now (asked_view request.entry)) (IsBadLook names.now (asked_view request.entry))
+        result }
+{
     match request {
         Asked::View { at, name } => {
             let p = one_or_each(alloc, names, name)?;

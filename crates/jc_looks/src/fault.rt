@@ -1,11 +1,11 @@
 //! Why nothing is shown, and the texts of refusals.
 
-ghost use Rattle.std.specs.Prelude.{◌≡◌, ◌++◌, codes, List, ℕ, IfOk, Some};
+ghost use Rattle.std.specs.Prelude.{◌≡◌, ◌++◌, IfOk};
 ghost use Rattle.jc_answers.specs.Parts.{member_of};
 ghost use Rattle.jc_answers.specs.JsonTexts.{object_text};
-ghost use Rattle.jc_answers.specs.Refusals.{refused_object, refusal_members, refusal_answer, IsRefusedText};
+ghost use Rattle.jc_answers.specs.Refusals.{refused_object, refusal_members, refusal_answer};
 ghost use Rattle.jc_replies.specs.ReplyTexts.{without_lf, true_member};
-ghost use Rattle.jc_looks.specs.LookFaults.{IsRefusedBy};
+ghost use Rattle.jc_looks.specs.LookFaults.{IsRefusedBy, IsRefusedAt};
 
 use jc_answers::{Member, object_text, refused, refused_text};
 use jc_rules::Refusal;
@@ -48,10 +48,7 @@ impl LookFault {
         refusal: Option<Refusal>,
         place: Option<usize>,
     ) -> Self
-        ensures { IsRefusedBy (λ answer. (which : AnyRefusal) → (at : ℕ)
-            → refusal ≡ Some which
-            → place ≡ Some at
-            → IsRefusedText text.now which at answer) result }
+        ensures { IsRefusedBy (IsRefusedAt text.now refusal place) result }
     {
         match refused_at(alloc, text, refusal, place) {
             Ok(answer) => LookFault::Refused(answer),
@@ -76,10 +73,7 @@ pub fn refused_at(
     refusal: Option<Refusal>,
     place: Option<usize>,
 ) -> Result<Vec<u8>, AllocError>
-    ensures { IfOk result (λ answer. (which : AnyRefusal) × (at : ℕ)
-        × (refusal ≡ Some which)
-        × (place ≡ Some at)
-        × IsRefusedText text.now which at answer.items) }
+    ensures { IfOk result (λ answer. IsRefusedAt text.now refusal place answer.items) }
 {
     let (Some(refusal), Some(place)) = (refusal, place) else {
         return Err(AllocError);

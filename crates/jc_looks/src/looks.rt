@@ -1,5 +1,16 @@
 //! What is shown of the replicas of a network: views, states and values of expressions.
 
+ghost use Rattle.std.specs.Prelude.{◌≡◌, ◌<◌, Some, length, slice_get, IfOk};
+ghost use Rattle.jc_rules.specs.ReplicaNames.{name_at};
+ghost use Rattle.jc_rules.specs.State.{State};
+ghost use Rattle.jc_syntax.specs.Trees.{expr_of};
+ghost use Rattle.jc_cursor.specs.Bounds.{bound_of};
+ghost use Rattle.jc_dump.specs.Dump.{bound_text, brief_text};
+ghost use Rattle.jc_answers.specs.JsonTexts.{array_text};
+ghost use Rattle.jc_replies.specs.ReplyTexts.{state_answer, state_answers};
+ghost use Rattle.jc_looks.specs.LookFaults.{GivesAnswer};
+ghost use Rattle.jc_looks.specs.Looks.{OfReplica, ShowsValue, Shows, IsWithin, view_answer, view_answers, viewed};
+
 use crate::fault::{LookFault, without_lf};
 use crate::values::value_of;
 use jc_answers::ArrayText;
@@ -25,21 +36,33 @@ pub enum Look {
     Eval(u16, Expr),
 }
 
-fn view_of(alloc: Global, net: &Net, p: u16) -> Result<Vec<u8>, AllocError> {
+fn view_of(alloc: Global, net: &Net, p: u16) -> Result<Vec<u8>, AllocError>
+    ensures { IfOk result (λ answer.
+        (A : State) → slice_get net.now.history.now.states p ≡ Some A
+        → answer.items ≡ view_answer net.now.names (name_at net.now.names p) A) }
+{
     match view_replica(alloc, net, p) {
         Ok(line) => Ok(without_lf(line)),
         Err(_) => Err(AllocError),
     }
 }
 
-fn state_of(alloc: Global, net: &Net, p: u16) -> Result<Vec<u8>, AllocError> {
+fn state_of(alloc: Global, net: &Net, p: u16) -> Result<Vec<u8>, AllocError>
+    ensures { IfOk result (λ answer.
+        (A : State) → slice_get net.now.history.now.states p ≡ Some A
+        → answer.items ≡ state_answer net.now.names (name_at net.now.names p) A) }
+{
     match dump_replica(alloc, net, p) {
         Ok(line) => Ok(without_lf(line.into_bytes())),
         Err(_) => Err(AllocError),
     }
 }
 
-fn brief_of(alloc: Global, net: &Net, p: u16) -> Result<Vec<u8>, AllocError> {
+fn brief_of(alloc: Global, net: &Net, p: u16) -> Result<Vec<u8>, AllocError>
+    ensures { IfOk result (λ answer.
+        (A : State) → slice_get net.now.history.now.states p ≡ Some A
+        → answer.items ≡ brief_text net.now.names (name_at net.now.names p) A) }
+{
     match brief_replica(alloc, net, p) {
         Ok(text) => Ok(text.into_bytes()),
         Err(_) => Err(AllocError),
@@ -47,7 +70,10 @@ fn brief_of(alloc: Global, net: &Net, p: u16) -> Result<Vec<u8>, AllocError> {
 }
 
 /// The views of all replicas.
-fn views(alloc: Global, net: &Net) -> Result<Vec<u8>, AllocError> {
+fn views(alloc: Global, net: &Net) -> Result<Vec<u8>, AllocError>
+    ensures { IfOk result (λ answer. answer.items
+        ≡ array_text (view_answers 0 net.now.names net.now.history.now.states)) }
+{
     let mut all = ArrayText::new(alloc)?;
     let count = net.names().len() as u16;
     for p in 0..count {
@@ -58,7 +84,10 @@ fn views(alloc: Global, net: &Net) -> Result<Vec<u8>, AllocError> {
 }
 
 /// The states of all replicas.
-fn states(alloc: Global, net: &Net) -> Result<Vec<u8>, AllocError> {
+fn states(alloc: Global, net: &Net) -> Result<Vec<u8>, AllocError>
+    ensures { IfOk result (λ answer. answer.items
+        ≡ array_text (state_answers 0 net.now.names net.now.history.now.states)) }
+{
     let mut all = ArrayText::new(alloc)?;
     let count = net.names().len() as u16;
     for p in 0..count {
@@ -68,12 +97,19 @@ fn states(alloc: Global, net: &Net) -> Result<Vec<u8>, AllocError> {
     all.end()
 }
 
-fn bound_answer(alloc: Global, net: &Net, bound: &Bound) -> Result<Vec<u8>, AllocError> {
-    Ok(bound_text(alloc, net.names(), bound)?.into_bytes())
+fn bound_answer(alloc: Global, net: &Net, bound: &Bound) -> Result<Vec<u8>, AllocError>
+    ensures { IfOk result (λ answer. answer.items ≡ bound_text net.now.names (bound_of bound.now)) }
+{
+    let text = bound_text(alloc, net.names(), bound)?;
+    Ok(text.into_bytes())
 }
 
 /// What is at a cursor, or else the value.
-fn viewed(alloc: Global, net: &Net, p: u16, bound: &Bound) -> Result<Vec<u8>, AllocError> {
+fn viewed(alloc: Global, net: &Net, p: u16, bound: &Bound) -> Result<Vec<u8>, AllocError>
+    ensures { IfOk result (λ answer.
+        (A : State) → slice_get net.now.history.now.states p ≡ Some A
+        → answer.items ≡ viewed net.now.names (name_at net.now.names p) A (bound_of bound.now)) }
+{
     let Bound::Cursor(cursor) = bound else {
         return bound_answer(alloc, net, bound);
     };
@@ -88,7 +124,12 @@ fn place_shown(
     net: &Net,
     p: u16,
     expression: &Expr,
-) -> Result<Vec<u8>, LookFault> {
+) -> Result<Vec<u8>, LookFault>
+    requires { p < length net.now.history.now.states }
+    ensures { GivesAnswer (λ answer. OfReplica net.now.history.now.states p (λ A.
+        ShowsValue (viewed net.now.names (name_at net.now.names p) A) net.now.names A (expr_of expression.now) answer))
+        result }
+{
     let bound = value_of(alloc, net, p, expression)?;
     Ok(viewed(alloc, net, p, &bound)?)
 }
@@ -98,13 +139,21 @@ fn value_shown(
     net: &Net,
     p: u16,
     expression: &Expr,
-) -> Result<Vec<u8>, LookFault> {
+) -> Result<Vec<u8>, LookFault>
+    requires { p < length net.now.history.now.states }
+    ensures { GivesAnswer (λ answer. OfReplica net.now.history.now.states p (λ A.
+        ShowsValue (bound_text net.now.names) net.now.names A (expr_of expression.now) answer))
+        result }
+{
     let bound = value_of(alloc, net, p, expression)?;
     Ok(bound_answer(alloc, net, &bound)?)
 }
 
 /// What a look shows of a network. An expression that gives nothing is refused.
-pub fn shown(alloc: Global, net: &Net, look: &Look) -> Result<Vec<u8>, LookFault> {
+pub fn shown(alloc: Global, net: &Net, look: &Look) -> Result<Vec<u8>, LookFault>
+    requires { IsWithin (length net.now.history.now.states) look.now }
+    ensures { GivesAnswer (Shows net.now.names net.now.history.now.states look.now) result }
+{
     match look {
         Look::View(None) => Ok(views(alloc, net)?),
         Look::View(Some(p)) => Ok(view_of(alloc, net, *p)?),

@@ -32,7 +32,7 @@ pub fn count_of(given: u64, length: u64, position: Position) -> Result<u64, Refu
 }
 
 /// The network before the events of a scenario.
-pub(crate) fn first_network(alloc: Global, scenario: &Scenario) -> Result<Net, AllocError>
+pub fn first_network(alloc: Global, scenario: &Scenario) -> Result<Net, AllocError>
     requires { IsWellFormedScenario (scenario_view scenario.now) }
     ensures { IfOk result (λ net. IsBeforeGiven (scenario_view scenario.now).version (scenario_view scenario.now).names
         (scenario_view scenario.now).scripts net) }

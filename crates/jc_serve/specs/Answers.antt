@@ -1,6 +1,5 @@
 -- What each request leads to, and its answer: the text of `serve` is made of these.
-use Rattle.std.specs.Prelude.{◌≡◌, ◌≢◌, ℕ, suc, ◌+◌, List, [], ◌∷◌, ◌++◌, length, map, slice_get, Option, Some, None, Result, Ok, Err, codes, decimal}
-use Rattle.serde_json.specs.Written.{compact_text}
+use Rattle.std.specs.Prelude.{◌≡◌, ◌≢◌, ℕ, suc, ◌+◌, List, [], ◌∷◌, ◌++◌, length, slice_get, Option, Some, None, Result, Ok, Err, codes}
 use Rattle.jc_rules.specs.declared.id.Id.{Id}
 use Rattle.jc_rules.specs.declared.operation.Cursor.{Cursor}
 use Rattle.jc_rules.specs.declared.operation.Event.{Event}
@@ -12,7 +11,7 @@ use Rattle.jc_rules.specs.declared.version.Version.TheVariants.{Two}
 use Rattle.jc_rules.specs.Refused.{Cause}
 use Rattle.jc_rules.specs.RuleNames.{rule_name}
 use Rattle.jc_rules.specs.ReplicaNames.{name_at}
-use Rattle.jc_rules.specs.State.{State, Bound, ACursor, Names, Pairs}
+use Rattle.jc_rules.specs.State.{State, Bound, ACursor}
 use Rattle.jc_rules.specs.Step.{Network}
 use Rattle.jc_rules.specs.Syntax.{Expr}
 use Rattle.jc_parser.specs.declared.fault.ScenarioFault.{ScenarioFault}
@@ -22,7 +21,7 @@ use Rattle.jc_scenario.specs.Canon.{canon}
 use Rattle.jc_scenario.specs.WellFormed.{Scenario}
 use Rattle.jc_json.specs.Json.{id_text}
 use Rattle.jc_cursor.specs.Evaluates.{IsEvalRefused}
-use Rattle.jc_dump.specs.Dump.{cursor_data}
+use Rattle.jc_dump.specs.Dump.{cursor_text}
 use Rattle.jc_debug.specs.declared.breaks.Break.TheVariants as Kind
 use Rattle.jc_debug.specs.declared.breaks.Break.{Break}
 use Rattle.jc_debug.specs.DebuggerState.{Session, IsNetworkAt, IsLeast, RunOutcome}
@@ -33,19 +32,21 @@ use Rattle.jc_session.specs.Requests as Q
 use Rattle.jc_session.specs.Requests.{Request, Word}
 use Rattle.jc_requests.specs.Asked as K
 use Rattle.jc_requests.specs.Asked.{Asked, Position}
-use Rattle.jc_answers.specs.JsonTexts.{Member, number_member, string_member, object_text, array_text}
+use Rattle.jc_answers.specs.JsonTexts.{NamedText, number_member, string_member, text_member, object_text, array_text}
 use Rattle.jc_answers.specs.Refusals.{refusal_answer, IsRefusedText}
-use Rattle.jc_answers.specs.ReplyTexts.{Answers, at_answer, flag}
-use Rattle.jc_looks.specs.Journals.{Details, AnswersJournal, AnswersEvent, IsMadeLine}
-use Rattle.jc_looks.specs.Looks.{Look, look_of, eval, IsStateOf, Gives, Shows, IsBadLook, IsGoodLook, LooksFrom, no_value_answer}
-use Rattle.jc_serve.specs.Marks.{Mark, of_session, operation, place, Served, new_served, moved_to, with_mark, session_in, after_session, MarkNamesAt, RunsTo, RunsBack}
-use Rattle.jc_looks.specs.Places.{IsPlaces}
-use Rattle.jc_looks.specs.Positions.{count_of, all_events, IsAt}
+use Rattle.jc_replies.specs.ReplyTexts.{IsAnswer, true_member, move_answer}
+use Rattle.jc_replies.specs.AnswerOf.{event_text}
+use Rattle.jc_looks.specs.declared.looks.Look.{Look}
+use Rattle.jc_looks.specs.Looks.{IsBadLook, IsBadExpression, AsksLook, Shows, AnswersLook, Gives, no_value_answer, background}
+use Rattle.jc_looks.specs.Positions.{count_of, IsAt}
+use Rattle.jc_listings.specs.Journals.{Details, AnswersJournal, AnswersEvent}
+use Rattle.jc_listings.specs.Places.{IsPlaces}
+use Rattle.jc_listings.specs.WovenTexts.{IsWovenText}
+use Rattle.jc_serve.specs.Marks.{Mark, of_session, operation, place, Served, moved_to, with_mark, session_in, after_session, RunsTo, RunsBack}
 use Rattle.jc_serve.specs.Subjects.{Subject, no_scenario, stuck_given, served, GivenStop, IsFaultAnswer, given_stuck_answer}
-use Rattle.jc_looks.specs.WovenTexts.{woven_answer, IsWovenText}
 
 abbrev pub quit_answer : List ℕ
-quit_answer = object_text (flag (codes "quit"))
+quit_answer = object_text (true_member (codes "quit"))
 
 abbrev pub details : Bool → Bool → Details
 details rules effects = record { rules = rules; effects = effects }
@@ -79,6 +80,9 @@ pub data IsBadRequest (s : Scenario) : Asked → List ℕ → Type 0 where
   strange_break : {name : Word}
       → IsStrange s.names name
       → IsBadRequest s (K.of_session (Q.break_replica name)) (refusal_answer F.UnknownReplica)
+  strange_state : {name : Word}
+      → IsStrange s.names name
+      → IsBadRequest s (K.of_session (Q.state_of name)) (refusal_answer F.UnknownReplica)
   strange_first : {name other : Word}
       → IsStrange s.names name
       → IsBadRequest s (K.of_session (Q.compare name other)) (refusal_answer F.UnknownReplica)
@@ -92,12 +96,9 @@ pub data IsBadRequest (s : Scenario) : Asked → List ℕ → Type 0 where
       → IsMisspelled s.version s.names rest refusal at
       → IsRefusedText rest refusal at answer
       → IsBadRequest s (K.of_session (Q.act rest)) answer
-  bad_look : {request : Asked} {at : Option Position} {look : Look} {answer : List ℕ}
-      → look_of request ≡ Some (at, look)
-      → IsBadLook s look answer
-      → IsBadRequest s request answer
+  bad_look : {request : Asked} {answer : List ℕ} → IsBadLook s.names request answer → IsBadRequest s request answer
   bad_place : {name : Word} {text answer : List ℕ}
-      → IsBadLook s (eval name text) answer
+      → IsBadExpression s.names name text answer
       → IsBadRequest s (K.break_place name text) answer
 
 abbrev pub IsGoodRequest : Scenario → Asked → Type 0
@@ -106,13 +107,14 @@ IsGoodRequest s request = (answer : List ℕ) → IsBadRequest s request answer 
 -- ---- where a given event is stuck
 
 -- what a look or an event is asked at, where one is
-abbrev pub at_of_look : Option (Option Position × Look) → Option Position
-at_of_look None = None
-at_of_look (Some look) = look.0
-
 abbrev pub position_in : Asked → Option Position
+position_in (K.view at name) = at
+position_in (K.view_place at name text) = at
+position_in (K.state_at at name) = Some at
+position_in (K.brief at name) = at
+position_in (K.eval at name text) = at
 position_in (K.event at rules effects) = at
-position_in request = at_of_look (look_of request)
+position_in request = None
 
 -- it is about the text as a whole, or is to end
 abbrev pub IsOfText : Asked → Type 0
@@ -144,13 +146,13 @@ pub data AnswersStuck (text : List ℕ) (s : Scenario) (stop : GivenStop s) : As
   journal : {rules effects : Bool} {between : Option (Position × Position)} {answer : List ℕ}
       → AnswersJournal (details rules effects) s s.schedule between answer
       → AnswersStuck text s stop (K.journal rules effects between) answer
-  shows : {request : Asked} {at : Option Position} {look : Look} {answer : List ℕ} (to : IsReached s request)
-      → look_of request ≡ Some (at, look)
-      → Shows s to.network.states look answer
+  shows : {request : Asked} {look : Look} {answer : List ℕ} (to : IsReached s request)
+      → AsksLook s.names request (Some to.at) look
+      → Shows s.names to.network.states look answer
       → AnswersStuck text s stop request answer
   event : {at : Position} {rules effects : Bool} {answer : List ℕ}
       → IsReached s (K.event (Some at) rules effects)
-      → AnswersEvent (details rules effects) s (new_served s.schedule) (Some at) answer
+      → AnswersEvent (details rules effects) s s.schedule 0 (Some at) answer
       → AnswersStuck text s stop (K.event (Some at) rules effects) answer
   bad : {request : Asked} {answer : List ℕ}
       → IsBadRequest s request answer
@@ -176,7 +178,7 @@ pub data SetsMark (A : Served) (b : Mark) : Served → List ℕ → Type 0 where
   none_free : ((j : ℕ) → slice_get A.marks j ≢ Some None) → SetsMark A b A (refusal_answer F.TooManyBreaks)
 
 -- what a breakpoint of a session is told as
-abbrev pub session_mark : List (List ℕ) → ℕ → Break → List Member
+abbrev pub session_mark : List (List ℕ) → ℕ → Break → List NamedText
 session_mark names number (Kind.Position n) =
     number_member (codes "at") n ++ string_member (codes "kind") (codes "at") ++ number_member (codes "number") number
 session_mark names number (Kind.Rule rule) =
@@ -186,13 +188,13 @@ session_mark names number (Kind.Replica p) =
     string_member (codes "kind") (codes "replica") ++ number_member (codes "number") number
     ++ string_member (codes "replica") (name_at names p)
 
-abbrev pub mark_members : List (List ℕ) → ℕ → Mark → List Member
+abbrev pub mark_members : List (List ℕ) → ℕ → Mark → List NamedText
 mark_members names number (of_session b) = session_mark names number b
 mark_members names number (operation i) =
     string_member (codes "kind") (codes "op") ++ number_member (codes "number") number
     ++ string_member (codes "op") (id_text names i)
 mark_members names number (place p c) =
-    (codes "cursor", compact_text (cursor_data names c)) ∷ string_member (codes "kind") (codes "place")
+    text_member (codes "cursor") (cursor_text names c) ++ string_member (codes "kind") (codes "place")
     ++ number_member (codes "number") number ++ string_member (codes "replica") (name_at names p)
 
 -- the breakpoints that there are; the first place has this number
@@ -205,14 +207,16 @@ mark_answers names number (Some b ∷ marks) =
 -- A breakpoint at the place that an expression gives at a replica.
 pub data SetsPlace (s : Scenario) (states : List State) (A : Served) (name : Word) (text : List ℕ)
     : Served → List ℕ → Type 0 where
-  bad : {answer : List ℕ} → IsBadLook s (eval name text) answer → SetsPlace s states A name text A answer
-  no_value : {state : State} {why : Cause} (e : Expr)
-      → IsStateOf s states name state
+  bad : {answer : List ℕ} → IsBadExpression s.names name text answer → SetsPlace s states A name text A answer
+  no_value : {p : ℕ} {state : State} {why : Cause} (e : Expr)
+      → IsNamed s.names name p
+      → slice_get states p ≡ Some state
       → IsExpressionOf text e
       → IsEvalRefused state.tree state.vars e why
       → SetsPlace s states A name text A (no_value_answer s.names why)
-  no_cursor : {state : State} {b : Bound} (e : Expr)
-      → IsStateOf s states name state
+  no_cursor : {p : ℕ} {state : State} {b : Bound} (e : Expr)
+      → IsNamed s.names name p
+      → slice_get states p ≡ Some state
       → IsExpressionOf text e
       → Gives state e b
       → ((c : Cursor) → b ≢ ACursor c)
@@ -227,18 +231,14 @@ pub data SetsPlace (s : Scenario) (states : List State) (A : Served) (name : Wor
 
 -- ---- moves of a session
 
--- where a run back ended
-abbrev pub back_members : Option ℕ → List Member
-back_members (Some j) = number_member (codes "break") (j + 1)
-back_members None = flag (codes "start")
+-- where a run back ended: at a breakpoint, or else at position 0
+abbrev pub at_mark : Option ℕ → List NamedText
+at_mark (Some j) = number_member (codes "break") (j + 1)
+at_mark None = []
 
--- The answer to a reply of a session; `text` is that of the request's event.
-abbrev pub IsReplyAnswer : Scenario → Network → List ℕ → Served → Reply → List ℕ → Type 0
-IsReplyAnswer s start text A reply answer = Answers s start text (session_in A) reply answer
-
-abbrev pub event_text : Request → List ℕ
-event_text (Q.act rest) = rest
-event_text request = []
+abbrev pub at_start : Option ℕ → List NamedText
+at_start (Some j) = []
+at_start None = true_member (codes "start")
 
 -- a session's request that has to do with breakpoints, or `quit`
 abbrev pub IsOwn : Request → Type 0
@@ -261,20 +261,23 @@ pub data AnswersServed (text : List ℕ) (s : Scenario) (start : Network) (A : S
       → IsWovenText s seed limit answer
       → AnswersServed text s start A (K.weave seed limit) A answer
   -- what a session has too, but for breakpoints
-  replies : {request : Request} {B : Session} {reply : Reply} {answer : List ℕ}
+  replies : {request : Request} {B : Session} {reply : Reply} {answer : List ℕ} (network : Network)
       → (IsOwn request → ⊥)
       → Replies (origin_of s start) (session_in A) request B reply
-      → IsReplyAnswer s start (event_text request) (after_session A B) reply answer
+      → IsNetworkAt start B.schedule B.position network
+      → IsAnswer (background s B.schedule network.states) (event_text request) reply answer
       → AnswersServed text s start A (K.of_session request) (after_session A B) answer
-  goes_to_end : {B : Session} {reply : Reply} {answer : List ℕ}
+  goes_to_end : {B : Session} {reply : Reply} {answer : List ℕ} (network : Network)
       → Replies (origin_of s start) (session_in A) (Q.goto (length A.schedule)) B reply
-      → IsReplyAnswer s start [] (after_session A B) reply answer
+      → IsNetworkAt start B.schedule B.position network
+      → IsAnswer (background s B.schedule network.states) [] reply answer
       → AnswersServed text s start A K.goto_end (after_session A B) answer
   -- runs
-  runs : {n : ℕ} {end : RunOutcome} {answer : List ℕ}
+  runs : {n : ℕ} {end : RunOutcome} {answer : List ℕ} (network : Network)
       → A.position ≢ length A.schedule
       → RunsTo start A n end
-      → IsReplyAnswer s start [] (moved_to A n) (Y.ran n end) answer
+      → IsNetworkAt start A.schedule n network
+      → IsAnswer (background s A.schedule network.states) [] (Y.ran n end) answer
       → AnswersServed text s start A (K.of_session Q.run) (moved_to A n) answer
   runs_past : A.position ≡ length A.schedule
       → AnswersServed text s start A (K.of_session Q.run) A (refusal_answer F.AtEnd)
@@ -282,7 +285,7 @@ pub data AnswersServed (text : List ℕ) (s : Scenario) (start : Network) (A : S
       → A.position ≢ 0
       → RunsBack start A n end
       → AnswersServed text s start A K.back_run (moved_to A n)
-      (at_answer s (session_in (moved_to A n)) n (back_members end) [])
+      (move_answer (background s A.schedule []) n (at_mark end) (at_start end))
   runs_back_past : A.position ≡ 0 → AnswersServed text s start A K.back_run A (refusal_answer F.AtStart)
   -- breakpoints
   breaks_at : {n : ℕ} {B : Served} {answer : List ℕ}
@@ -317,12 +320,11 @@ pub data AnswersServed (text : List ℕ) (s : Scenario) (start : Network) (A : S
       → IsBadRequest s request answer
       → AnswersServed text s start A request A answer
   -- what there is at a position
-  looks : {request : Asked} {at : Option Position} {look : Look} {answer : List ℕ}
-      → look_of request ≡ Some (at, look)
-      → LooksFrom s A at look answer
+  looks : {request : Asked} {answer : List ℕ}
+      → AnswersLook s A.schedule A.position request answer
       → AnswersServed text s start A request A answer
   tells_event : {at : Option Position} {rules effects : Bool} {answer : List ℕ}
-      → AnswersEvent (details rules effects) s A at answer
+      → AnswersEvent (details rules effects) s A.schedule A.position at answer
       → AnswersServed text s start A (K.event at rules effects) A answer
   tells_journal : {rules effects : Bool} {between : Option (Position × Position)} {answer : List ℕ}
       → AnswersJournal (details rules effects) s A.schedule between answer

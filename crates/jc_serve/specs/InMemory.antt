@@ -1,5 +1,5 @@
 -- What the values in memory represent: the contracts of private functions cite it.
-use Rattle.std.specs.Prelude.{◌≡◌, ℕ, ◌+◌, List, All, length, map, Option, Some, None, option_map}
+use Rattle.std.specs.Prelude.{◌≡◌, ℕ, ◌+◌, List, All, length, map, replicate, Option, Some, None, option_map}
 use Rattle.jc_rules.specs.declared.limits.TheConstants.{MAX_BREAKS}
 use Rattle.jc_rules.specs.Step.{Network}
 use Rattle.jc_printer.specs.Canon.{AreNamed}
@@ -39,7 +39,9 @@ pub record IsServing (s : Scenario) (start : Network) (x : AnyServed) : Type 0 w
   pub scenario : scenario_view x.scenario ≡ s
   pub formed : IsWellFormedScenario s
   pub starts : IsStart s start
+  -- the breakpoints of a session are none of its own
   pub here : IsDebuggerOf s start x.here
+  pub no_breaks : x.here.breaks ≡ replicate MAX_BREAKS None
   pub aside : IsDebuggerOf s start x.aside
   pub same : x.aside.schedule ≡ x.here.schedule
   pub known : All (λ e. AreNamed e (length s.names)) x.here.schedule

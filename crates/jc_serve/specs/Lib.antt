@@ -1,9 +1,5 @@
-pub mod Positions
 pub mod Marks
-pub mod Looks
-pub mod Journals
-pub mod WovenTexts
-pub mod Places
+pub mod InMemory
 pub mod Subjects
 pub mod Answers
 pub mod Serving

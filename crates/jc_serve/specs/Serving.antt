@@ -1,6 +1,5 @@
 -- The text of `serve` on the bytes of its input: what it writes where nothing fails, and how it ends.
-use Rattle.std.specs.Prelude.{◌≡◌, ◌≢◌, ℕ, ◌+◌, List, [], ◌∷◌, ◌++◌, take, Option, Some, None}
-use Rattle.jc_rules.specs.declared.limits.TheConstants.{MAX_TEXT}
+use Rattle.std.specs.Prelude.{◌≡◌, ℕ, List, [], ◌∷◌, ◌++◌, Some, None}
 use Rattle.jc_rules.specs.declared.refusal.Refusal.TheVariants.{BadLine}
 use Rattle.jc_session.specs.Requests as Q
 use Rattle.jc_requests.specs.Asked.{Asked, asked, of_session}
@@ -18,10 +17,6 @@ pub record Held : Type 0 where
 abbrev pub IsFirst : Held → Type 0
 IsFirst H = (H.text ≡ []) × IsSubject [] H.subject
 
--- of a text no byte behind the first one past its limit counts
-abbrev pub kept_text : List ℕ → List ℕ
-kept_text bytes = take (MAX_TEXT + 1) bytes
-
 -- What a request leads to, and its answer, without its LF.
 pub data AnswersTurn (H : Held) : Turn → Held → List ℕ → Type 0 where
   refuses : {line : _} → asked line ≡ None → AnswersTurn H (says line) H (refusal_answer BadLine)
@@ -30,9 +25,9 @@ pub data AnswersTurn (H : Held) : Turn → Held → List ℕ → Type 0 where
       → AnswersAbout H.text H.subject request subject answer
       → AnswersTurn H (says line) (record { text = H.text; subject = subject }) answer
   brings_text : {bytes answer : List ℕ} {subject : Subject}
-      → IsSubject (kept_text bytes) subject
-      → IsCounts (kept_text bytes) subject answer
-      → AnswersTurn H (brings bytes) (record { text = kept_text bytes; subject = subject }) answer
+      → IsSubject bytes subject
+      → IsCounts bytes subject answer
+      → AnswersTurn H (brings bytes) (record { text = bytes; subject = subject }) answer
 
 -- the requests are answered one after another, each by a line
 abbrev pub AnswersTurns : Held → List Turn → Held → List ℕ → Type 0

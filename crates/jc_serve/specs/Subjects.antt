@@ -11,9 +11,9 @@ use Rattle.jc_parser.specs.Faults.{fault_refusal, fault_offset}
 use Rattle.jc_scenario.specs.Faults.{IsFault}
 use Rattle.jc_scenario.specs.WellFormed.{Scenario, IsScenario}
 use Rattle.jc_network.specs.Given.{IsStart}
-use Rattle.jc_answers.specs.JsonTexts.{Member, number_member, object_text}
+use Rattle.jc_answers.specs.JsonTexts.{NamedText, number_member, text_member, object_text}
 use Rattle.jc_answers.specs.Refusals.{refused_object, refusal_members, IsRefusedText}
-use Rattle.jc_looks.specs.Journals.{stuck_line_behind}
+use Rattle.jc_listings.specs.Journals.{stuck_line_behind}
 use Rattle.jc_serve.specs.Marks.{Served, new_served}
 use Rattle.jc_looks.specs.Positions.{StopsAt}
 
@@ -59,13 +59,13 @@ stuck_line_of s stop = stuck_line_behind s stop.count stop.network stop.why stop
 
 -- that a given event is stuck
 abbrev pub given_stuck_answer : (s : Scenario) → GivenStop s → List ℕ
-given_stuck_answer s stop = refused_object (refusal_members GivenStuck ++ (codes "stuck", stuck_line_of s stop) ∷ [])
+given_stuck_answer s stop = refused_object (refusal_members GivenStuck ++ text_member (codes "stuck") (stuck_line_of s stop))
 
 abbrev pub command_count : Scenario → ℕ
 command_count s = sum_by length s.scripts
 
 -- how much there is of the scenario
-abbrev pub counts_answer : Scenario → List Member → List ℕ
+abbrev pub counts_answer : Scenario → List NamedText → List ℕ
 counts_answer s stuck =
     object_text (
     number_member (codes "commands") (command_count s) ++ number_member (codes "events") (length s.schedule)
@@ -75,5 +75,5 @@ counts_answer s stuck =
 -- the answer to the request that brought the text
 abbrev pub IsCounts : List ℕ → Subject → List ℕ → Type 0
 IsCounts text (no_scenario fault) answer = IsFaultAnswer text fault answer
-IsCounts text (stuck_given s stop) answer = answer ≡ counts_answer s ((codes "stuck", stuck_line_of s stop) ∷ [])
+IsCounts text (stuck_given s stop) answer = answer ≡ counts_answer s (text_member (codes "stuck") (stuck_line_of s stop))
 IsCounts text (served s start A) answer = answer ≡ counts_answer s []

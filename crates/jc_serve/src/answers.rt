@@ -3,13 +3,11 @@
 use crate::served::Served;
 use crate::subjects::{Subject, fault_answer};
 use crate::texts::{counted, journal, quit_answer, quoted};
-use jc_answers::{refused, refused_text};
+use jc_answers::refused;
 use jc_debug::GotoFault;
 use jc_journal::{Before, NumberedEvent, event_effects, event_line};
-use jc_looks::{
-    Details, Look, LookFault, flag, given_network, line_behind, look_of, places, shown, without_lf,
-    woven_answer,
-};
+use jc_listings::{Details, line_behind, places, woven_answer};
+use jc_looks::{Look, LookFault, flag, given_network, look_of, shown, without_lf};
 use jc_replies::answer_of;
 use jc_requests::{Asked, Position};
 use jc_rules::{Refusal, Version};

@@ -1,11 +1,12 @@
 //! A scenario of which a given event is stuck: there is no session, but what is before that event can be looked at.
 
 use crate::texts::{journal, quoted, quit_answer};
-use jc_answers::{Member, refused};
+use jc_answers::Member;
 use jc_journal::stuck_line;
+use jc_listings::{Details, line_behind, places};
 use jc_looks::{
-    Details, Look, LookFault, count_of, expression_at, flag, given_network, line_behind, look_of,
-    places, refused_with, replica_named, shown, without_lf,
+    Look, LookFault, count_of, expression_at, flag, given_network, look_of, refused_with,
+    replica_named, shown, without_lf,
 };
 use jc_network::{Net, Stuck};
 use jc_requests::{Asked, Position};

@@ -1,10 +1,9 @@
 //! The lines of a journal between two positions, and the line of one event.
 
 use crate::events::event_behind;
-use crate::fault::without_lf;
-use crate::positions::first_network;
 use jc_answers::ArrayText;
 use jc_journal::{Before, NumberedEvent, event_effects, event_line, stuck_line};
+use jc_looks::{first_network, without_lf};
 use jc_network::{Net, StepFault, Stuck};
 use jc_rules::{Event, Rule, Trace};
 use jc_scenario::Scenario;
