@@ -40,7 +40,9 @@ it says besides why a text is refused or an event stuck.
   weave [--seed N] [--limit N] FILE
                         prints the scenario with a schedule drawn from the seed (0 unless it is said):
                         each replica chooses its events as its thread does, up to the limit (10,000);
-                        yields between commands make schedules that end differently
+                        yields between commands make schedules that end differently; a command that is
+                        stuck, since it needs what others made, wants more yields before it, or that as
+                        the past, in a block given { .. }
   debug FILE            the debugger: steps forwards and backwards by lines of standard input (`act`
                         cuts off the rest of the schedule for good); in a terminal it is tools/debug,
                         which has a prompt, a history and Tab, and `help` lists the lines

@@ -288,6 +288,15 @@ def has_no_scheduler(programs):
             expect(ended.returncode == 2 and is_told, f"{ended}")
 
 
+def lacks_dask(programs):
+    """Where the Python has no Dask, a sentence says which one would have it."""
+    with folder_of({"dask.py": "raise ImportError\n"}) as folder:
+        ended = run(["env", f"PYTHONPATH={folder}", sys.executable, "kit/campaign", "--folder", f"{folder}/results",
+                     *ENGINE], programs.program)
+        told = f"campaign: Dask isn't here: {sys.executable} has none. Debian's is python3-distributed, for "
+        expect(ended.returncode == 2 and told_errors(ended).startswith(told), f"{ended}")
+
+
 def campaigns():
     yield "kit: a campaign finds a fault", finds_fault
     yield "kit: a campaign without a fault", has_no_fault
@@ -299,3 +308,4 @@ def campaigns():
     yield "kit: a campaign is told wrongly", is_wrong
     yield "kit: a campaign with the results of others", is_of_others
     yield "kit: a campaign without a scheduler", has_no_scheduler
+    yield "kit: a campaign without Dask", lacks_dask

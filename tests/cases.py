@@ -62,6 +62,13 @@ def place(path, text):
     subprocess.run(["sh", "-c", 'cat >"$1" && chmod 755 "$1"', "sh", path], input=text.encode(), check=True)
 
 
+def copy_into(folder, *paths):
+    """Copies files and folders, by their paths from here, into a folder; by processes of their own, for the same
+    reason."""
+    packed = subprocess.run(["tar", "cf", "-", "--exclude=__pycache__", *paths], stdout=subprocess.PIPE, check=True)
+    subprocess.run(["tar", "xf", "-", "-C", folder], input=packed.stdout, check=True)
+
+
 @contextlib.contextmanager
 def folder_of(commands):
     """A folder with commands, each with the text of its script, for as long as it is used."""

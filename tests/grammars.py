@@ -139,10 +139,24 @@ def are_cited(_):
     expect_same(" ".join(name for name in productions if name not in named), "")
 
 
+def are_listed(_):
+    """LANGUAGE.md has the productions of the value in its order, each with a section that is there."""
+    section = stored(LANGUAGE).split("\n## The language as one value\n")[1]
+    rows = re.findall(r"^\| (`.*?) \| .* \| (.*) \|$", section, re.MULTILINE)
+    listed = [name for names, _ in rows for name in re.findall(r"`(\w+)`", names)]
+    defined = re.findall(r"^abbrev pub (\w+) :.*\bGrammar$", stored(VALUE), re.MULTILINE)
+    expect_same("\n".join(listed), "\n".join(defined))
+    headings = re.findall(r"^## (.*)$", stored(LANGUAGE), re.MULTILINE)
+    told = [part for _, parts in rows if not parts.startswith("FORMATS.md") for part in parts.split(", ")]
+    lacking = [part for part in told if part not in headings]
+    expect(told and not lacking, f"it names {lacking}")
+
+
 def grammars():
     yield f"grammar: {COUNT} random texts", agrees
     yield "grammar: texts of docs/FORMATS.md", are_told
     yield "grammar: the value and the documents", are_cited
+    yield "grammar: productions in their order", are_listed
     for right, wrong in WRONG:
         yield wrong_case(right, wrong)
     for row in UNREAD:

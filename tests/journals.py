@@ -4,12 +4,11 @@ import glob
 import json
 import os
 import re
-import shutil
 import subprocess
 import sys
 import tempfile
 
-from cases import IN_PYTHON, expect, expect_same, run, stored
+from cases import IN_PYTHON, copy_into, expect, expect_same, run, stored
 
 ROOT = os.path.dirname(os.path.dirname(os.path.abspath(__file__)))
 sys.path.append(os.path.join(ROOT, "kit"))
@@ -196,8 +195,8 @@ def wrong_case(what, file, right, wrong):
         text = stored(os.path.join("oracle", file))
         expect(text.count(right) == 1, f"{right} stands in oracle/{file} {text.count(right)} times")
         with tempfile.TemporaryDirectory() as folder:
-            shutil.copytree("python", os.path.join(folder, "python"))
-            copied = shutil.copytree("oracle", os.path.join(folder, "oracle"))
+            copy_into(folder, "python", "oracle")
+            copied = os.path.join(folder, "oracle")
             with open(os.path.join(copied, file), "w", encoding="utf-8") as changed:
                 changed.write(text.replace(right, wrong))
             told = run([os.path.join(copied, "compare"), "--effects", "20"], IN_PYTHON)

@@ -4,11 +4,10 @@ kit/check judges what an adapter writes."""
 import json
 import os
 import re
-import shutil
 import sys
 import tempfile
 
-from cases import IN_PYTHON, NotTried, expect, expect_same, run, stored
+from cases import IN_PYTHON, NotTried, copy_into, expect, expect_same, run, stored
 from jsoncrdt.oracle.engine import FAULTS
 from jsoncrdt.oracle.lines import RULES
 from jsoncrdt.oracle.texts import REFUSALS
@@ -227,7 +226,7 @@ def is_made(programs):
         for name in ("oracle", "python", "tools", "docs"):
             os.symlink(os.path.abspath(name), os.path.join(folder, name))
         copied = os.path.join(folder, "kit")
-        shutil.copytree("kit", copied, ignore=lambda path, names: set(names) & {*NAMES[1:]} if path == "kit" else ())
+        copy_into(folder, *(os.path.join("kit", name) for name in os.listdir("kit") if name not in NAMES[1:]))
         os.remove(os.path.join(copied, NAMES[0], "view"))
         with open(os.path.join(copied, NAMES[0], "status"), "w", encoding="utf-8") as file:
             file.write("7\n")

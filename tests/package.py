@@ -10,7 +10,7 @@ import sys
 import tempfile
 from decimal import Decimal
 
-from cases import IN_PYTHON, NotTried, expect, expect_same, folder_of, stored
+from cases import IN_PYTHON, NotTried, copy_into, expect, expect_same, folder_of, stored
 from jsoncrdt import ABSENT, Conflict, Identifier, NoAnswer, Place, Program, Refused, Rules, Scenario, Stuck, doc
 from jsoncrdt import check, journal, run, view, weave
 from jsoncrdt.machines import pool_of
@@ -470,9 +470,8 @@ def is_installed(_):
     python = python_with("venv", "setuptools", "wheel", "pip")
     with tempfile.TemporaryDirectory() as folder:
         source, room = os.path.join(folder, "source"), os.path.join(folder, "room")
-        for name in ("python", "oracle"):
-            shutil.copytree(name, os.path.join(source, name))
-        shutil.copy("pyproject.toml", source)
+        os.mkdir(source)
+        copy_into(source, "python", "oracle", "pyproject.toml")
         for words in ([python, "-m", "venv", "--system-site-packages", room],
                       [f"{room}/bin/pip", "install", "--quiet", "--no-index", "--no-build-isolation", source]):
             ended = called(words)

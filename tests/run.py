@@ -3,7 +3,6 @@
 import collections
 import concurrent.futures
 import glob
-import json
 import os
 import re
 import shutil
@@ -26,11 +25,11 @@ from architecture import architecture
 from blocks import ROWS, bare_blocks, commands_of, long_paragraphs, row_case
 from campaigns import campaigns
 from cases import IN_PYTHON, IN_TEST, NotTried, Programs, Wrong, expect, expect_same, run, stored, told_errors
+from colours import colours
 from edits import edits
 from exploring import exploring
 from faults import faults
 from grammars import grammars
-from jsoncrdt.oracle.grammar import EVENTS, RESERVED
 from journals import journals
 from kit import kit
 from kit_options import has_yjs, kit_options
@@ -212,16 +211,6 @@ def process():
     yield "process: quit while the input stays open", quits_at_once
 
 
-def patterns_of(grammar):
-    """All regular expressions of a grammar for editors."""
-    if isinstance(grammar, list):
-        return [pattern for part in grammar for pattern in patterns_of(part)]
-    if not isinstance(grammar, dict):
-        return []
-    own = [grammar[name] for name in ("match", "begin", "end") if isinstance(grammar.get(name), str)]
-    return own + patterns_of(list(grammar.values()))
-
-
 def ends_well(words):
     """The command ends with 0 and tells nothing."""
 
@@ -295,14 +284,6 @@ def arguments():
         yield asked_case(IN_PYTHON, words, status, text)
 
 
-def colours_words(_):
-    grammar = json.loads(stored("editors/vscode/jsoncrdt.tmLanguage.json"))
-    text = "\n".join(re.compile(pattern).pattern for pattern in patterns_of(grammar)).replace("\\b", " ")
-    looked_for = sorted(RESERVED | {*EVENTS, b"take", b"given", b"schedule", b"replica", b"jsoncrdt"})
-    words = [word.decode() for word in looked_for if not re.search(rf"\b{word.decode()}\b", text)]
-    expect(not words, f"no pattern has {words}")
-
-
 def editors():
     yield ends_well(["tools/make-completions", "--check"])
     yield ends_well(["bash", "-n", "completions/jsoncrdt.bash"])
@@ -316,7 +297,7 @@ def editors():
     yield completed_case(["jsoncrdt", "run", "examples/tw"], "examples/two-lists.jsoncrdt examples/two-types.jsoncrdt")
     yield "editors: tools/command_line.py and the sources of the program", is_defined
     yield "editors: tools/command_line.py and --help", names_commands
-    yield "editors: editors/vscode/jsoncrdt.tmLanguage.json", colours_words
+    yield from colours(sorted(glob.glob("examples/**/*.jsoncrdt", recursive=True) + glob.glob("kit/*/scenario.jsoncrdt")))
 
 
 PASSED, FAILED, SKIPPED = "passed", "failed", "skipped"

@@ -13,13 +13,12 @@ import pty
 import random
 import re
 import select
-import shutil
 import subprocess
 import tempfile
 import time
 from unittest import mock
 
-from cases import IN_PYTHON, IN_TEST, expect, expect_same, folder_of, place, run, stored
+from cases import IN_PYTHON, IN_TEST, copy_into, expect, expect_same, folder_of, place, run, stored
 from jsoncrdt.oracle import debugger, requests
 from jsoncrdt.oracle.debugger import Refusal
 from jsoncrdt.oracle.grammar import read
@@ -704,8 +703,7 @@ def copied_with(folder, file, right, wrong):
     """The command of a copy of the rules in which a text of a file is another."""
     text = stored(os.path.join("oracle", file))
     expect(text.count(right) == 1, f"{right} stands in oracle/{file} {text.count(right)} times")
-    for part in ("python", "oracle"):
-        shutil.copytree(part, os.path.join(folder, part))
+    copy_into(folder, "python", "oracle")
     with open(os.path.join(folder, "oracle", file), "w", encoding="utf-8") as changed:
         changed.write(text.replace(right, wrong))
     return os.path.join(folder, IN_PYTHON)
@@ -840,9 +838,7 @@ def launched(_):
     for program, answer, said in ((OLDER, BAD + "\n", "unproved: the program has no serve yet\n"),
                                   (YOUNGER, '"built"\n', "")):
         with tempfile.TemporaryDirectory() as folder:
-            for part in ("oracle", "python"):
-                shutil.copytree(part, os.path.join(folder, part))
-            shutil.copy("jsoncrdt", folder)
+            copy_into(folder, "oracle", "python", "jsoncrdt")
             os.makedirs(os.path.join(folder, "crates", "jc_app", "src"))
             os.makedirs(os.path.join(folder, "crates", "jc_app", "out"))
             place(os.path.join(folder, "crates.txt"), "jc_app:\n")

@@ -2,7 +2,8 @@
 // where they are seen, and all of them for print.
 
 const ROW = 24, LEFT = 52, OVERSCAN = 8, MOST_WAYS = 140, MOST_LIT = 400, MOST_PRINTED = 500, PRINTED_TOGETHER = 12;
-const FEW_COLUMNS = 8, LETTER = 8;
+// How wide a letter of a name is, and a name that stands upright; how much is left for what a row says, at most.
+const FEW_COLUMNS = 8, LETTER = 8, UPRIGHT = 7, WORDS = 240, PART_OF_WORDS = .55;
 
 const yOf = row => row * ROW + ROW / 2;
 
@@ -107,7 +108,7 @@ class Lanes {
   }
 
   get scale() {
-    return this.width < 13 ? .62 : this.width < 20 ? .8 : 1;
+    return this.width < 5 ? .5 : this.width < 13 ? .62 : this.width < 20 ? .8 : 1;
   }
 
   /** The row of an event by its index; that of the start for what was before. */
@@ -119,13 +120,16 @@ class Lanes {
   lay() {
     const wide = this.scroller.clientWidth || 560, count = names.length, areFew = count <= FEW_COLUMNS;
     const [least, most, part] = areFew ? [24, 64, .34] : [7.2, 24, .56];
-    this.width = Math.max(least, Math.min(most, wide * part / count));
+    const room = (wide - LEFT - Math.min(WORDS, wide * PART_OF_WORDS)) / count;
+    this.width = Math.min(room, Math.max(least, Math.min(most, wide * part / count)));
     const longest = Math.max(...names.map(name => name.length)), isTall = this.width < LETTER * (longest + 1);
     this.names.classList.toggle("tall", isTall);
     this.names.classList.toggle("tiny", this.width < 10);
     this.names.style.height = isTall ? `${Math.min(120, 14 + 6.8 * longest)}px` : "28px";
+    // Where columns are narrower than their names not all are named, but the one that acts always is.
+    const step = isTall ? Math.ceil(UPRIGHT / this.width) : 1;
     this.names.replaceChildren(...names.map((name, r) =>
-      h("span", { colour: colours[r], style: { left: `${this.x(r)}px` } }, name)));
+      h("span", { class: r % step ? "between" : "", colour: colours[r], style: { left: `${this.x(r)}px` } }, name)));
   }
 
   /** Draws the rows that are seen. Without rows it draws the graph alone: the pointer may be on a row. */

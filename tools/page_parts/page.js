@@ -271,7 +271,10 @@ addEventListener("hashchange", () => {
 });
 addEventListener("beforeprint", () => lanes.forEach(each => each.print()));
 new ResizeObserver(() => {
-  for (const each of lanes) each.lay();
+  for (const each of lanes) {
+    each.lay();
+    each.show();
+  }
   drawLanes();
 }).observe(lanes[0].scroller);
 for (const each of lanes) each.lay();

@@ -1,12 +1,11 @@
 //! What variables are bound to, and what expressions evaluate to; replicas keep their variables so.
 
-ghost use Rattle.std.specs.Prelude.{◌≡◌, ◌↔◌, IsTrue, IfOk, IfErr, option_copied};
-ghost use Rattle.jc_rules.specs.State.{ACursor};
-ghost use Rattle.jc_rules.specs.Refused.{IsCursor};
-ghost use Rattle.jc_cursor.specs.Bounds.{bound_of, AreSortedByName, FoundAs};
+ghost use Rattle.std.specs.Prelude.{◌≡◌, IfOk, option_copied};
+ghost use Rattle.jc_cursor.specs.Bounds.{bound_of, vars_in, FoundAs};
 
 use jc_rules::{Cursor, Names, Pairs, Text};
 use std::alloc::AllocError;
+use std::collections::BTreeMap;
 
 /// What an expression evaluates to, and what a variable is bound to.
 #[derive(Drop)]
@@ -44,25 +43,19 @@ fn bound_first<'a>(vars: &'a [(Text, Bound)], name: &Text) -> Option<&'a Bound>
     None
 }
 
-/// What the variable is bound to, found by halving.
-fn bound_between<'a>(vars: &'a [(Text, Bound)], name: &Text) -> Option<&'a Bound>
-    requires { AreSortedByName vars.now }
-    ensures { FoundAs name.now vars.now (option_copied result) }
-{
-    match vars.binary_search_by(|var| var.0.cmp(name)) {
-        Ok(place) => Some(&vars[place].1),
-        Err(_) => None,
-    }
+/// Variables and what they are bound to: a list, or a map by name.
+#[derive(Clone, Copy)]
+pub enum Variables<'a> {
+    List(&'a [(Text, Bound)]),
+    Map(&'a BTreeMap<Text, Bound>),
 }
 
-/// What the variable is bound to. `sorted` says that the names are known to rise.
-pub fn bound_to<'a>(vars: &'a [(Text, Bound)], sorted: bool, name: &Text) -> Option<&'a Bound>
-    requires { IsTrue sorted → AreSortedByName vars.now }
-    ensures { FoundAs name.now vars.now (option_copied result) }
+/// What the variable is bound to.
+pub fn bound_to<'a>(vars: Variables<'a>, name: &Text) -> Option<&'a Bound>
+    ensures { FoundAs name.now (vars_in vars.entry) (option_copied result) }
 {
-    if sorted {
-        bound_between(vars, name)
-    } else {
-        bound_first(vars, name)
+    match vars {
+        Variables::List(list) => bound_first(list, name),
+        Variables::Map(map) => map.get(name),
     }
 }

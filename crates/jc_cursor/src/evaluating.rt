@@ -1,21 +1,22 @@
 //! Evaluating expressions, and why one is refused: replicas do it for the commands of scripts.
 
-ghost use Rattle.std.specs.Prelude.{◌≡◌, IsTrue, IfOk, IfErr, IfSome, OnErr};
+ghost use Rattle.std.specs.Prelude.{◌≡◌, IfOk, IfErr, IfSome, OnErr};
 ghost use Rattle.jc_rules.specs.Context.{Context as AnyContext};
 ghost use Rattle.jc_rules.specs.WellFormed.{IsChained};
 ghost use Rattle.jc_rules.specs.Syntax.{Variable};
 ghost use Rattle.jc_syntax.specs.Trees.{expr_of};
 ghost use Rattle.jc_cursor.specs.declared.evaluating.EvalFault.TheVariants.{Memory as NoMemory};
-ghost use Rattle.jc_cursor.specs.Bounds.{AreSortedByName, bound_of, vars_of};
+ghost use Rattle.jc_cursor.specs.Bounds.{bound_of, vars_of, vars_in};
 ghost use Rattle.jc_cursor.specs.Evaluates.{Evaluates, IsEvalRefused, eval_cause_of, rule_of};
 ghost use Rattle.jc_cursor.specs.WayDown.{IsGrown};
 
-use crate::bound::{Bound, bound_to};
+use crate::bound::{Bound, Variables, bound_to};
 use crate::select::select;
 use jc_rules::{Cursor, Key, Path, Rule, Tagged, Text, Trace};
 use jc_syntax::Expr;
 use jc_tree::TreeStore;
 use std::alloc::{AllocError, Global};
+use std::collections::BTreeMap;
 
 /// Why an expression was refused.
 #[derive(Debug, PartialEq, Eq, Drop)]
@@ -81,46 +82,36 @@ fn rule_of(expr: &Expr) -> Rule
     }
 }
 
-/// Evaluates a variable. After a refusal its rule may have been added to the trace. `sorted` says that the names
-/// are known to rise.
-fn variable(
-    vars: &[(Text, Bound)],
-    sorted: bool,
-    name: &Text,
-    trace: &mut Trace,
-) -> Result<Bound, EvalFault>
-    requires { IsTrue sorted → AreSortedByName vars.now }
-    ensures ok { IfOk result (λ b.
-        (c : AnyContext) → Evaluates c (vars_of vars.now) (Variable name.now) (bound_of b) trace.old trace.new) }
+/// Evaluates a variable. After a refusal its rule may have been added to the trace.
+fn variable(vars: Variables<'_>, name: &Text, trace: &mut Trace) -> Result<Bound, EvalFault>
+    ensures ok { IfOk result (λ b. (c : AnyContext)
+        → Evaluates c (vars_of (vars_in vars.entry)) (Variable name.now) (bound_of b) trace.old trace.new) }
     ensures refused { IfErr result (λ f.
         IfSome (eval_cause_of f) (λ why.
-        (c : AnyContext) → IsEvalRefused c (vars_of vars.now) (Variable name.now) why)) }
+        (c : AnyContext) → IsEvalRefused c (vars_of (vars_in vars.entry)) (Variable name.now) why)) }
     ensures grown { IsGrown trace.old trace.new }
 {
-    let Some(bound) = bound_to(vars, sorted, name) else {
+    let Some(bound) = bound_to(vars, name) else {
         return Err(EvalFault::UnboundVariable);
     };
     trace.push(Rule::Var)?;
     Ok(bound.copy()?)
 }
 
-/// Evaluates the expression. After a refusal rules may have been added to the trace. `sorted` says that the names of
-/// the variables are known to rise.
+/// Evaluates the expression. After a refusal rules may have been added to the trace.
 fn evaluate<S: TreeStore>(
     alloc: Global,
     store: &S,
-    vars: &[(Text, Bound)],
-    sorted: bool,
+    vars: Variables<'_>,
     expr: &Expr,
     trace: &mut Trace,
 ) -> Result<Bound, EvalFault>
-    requires chained { IsChained (S.tree store.now).now }
-    requires sorted { IsTrue sorted → AreSortedByName vars.now }
-    ensures ok { IfOk result (λ b.
-        Evaluates (S.tree store.now).now (vars_of vars.now) (expr_of expr.now) (bound_of b) trace.old trace.new) }
+    requires { IsChained (S.tree store.now).now }
+    ensures ok { IfOk result (λ b. Evaluates (S.tree store.now).now (vars_of (vars_in vars.entry)) (expr_of expr.now)
+        (bound_of b) trace.old trace.new) }
     ensures refused { IfErr result (λ f.
         IfSome (eval_cause_of f) (λ why.
-        IsEvalRefused (S.tree store.now).now (vars_of vars.now) (expr_of expr.now) why)) }
+        IsEvalRefused (S.tree store.now).now (vars_of (vars_in vars.entry)) (expr_of expr.now) why)) }
     ensures grown { IsGrown trace.old trace.new }
 {
     match expr {
@@ -131,11 +122,11 @@ fn evaluate<S: TreeStore>(
                 last: Key::Doc,
             }))
         }
-        Expr::Var(name) => variable(vars, sorted, name, trace),
+        Expr::Var(name) => variable(vars, name, trace),
         Expr::Get(from, _) | Expr::Idx(from, _) | Expr::Keys(from) | Expr::Values(from) => {
             let depth = trace.depth();
             trace.open(rule_of(expr))?;
-            let Bound::Cursor(cursor) = evaluate(alloc, store, vars, sorted, from, trace)? else {
+            let Bound::Cursor(cursor) = evaluate(alloc, store, vars, from, trace)? else {
                 return Err(EvalFault::NotACursor);
             };
             let bound = select(alloc, store, cursor, expr, trace)?;
@@ -166,32 +157,31 @@ pub fn eval<S: TreeStore>(
     ensures err_trace { OnErr result (trace.new ≡ trace.old) }
 {
     let start = trace.mark();
-    let outcome = evaluate(alloc, store, vars, false, expr, trace);
+    let outcome = evaluate(alloc, store, Variables::List(vars), expr, trace);
     if outcome.is_err() {
         trace.cut(start);
     }
     outcome
 }
 
-/// As [`eval`], where the variables are sorted by name: each is found by halving, and not by a walk.
-pub fn eval_sorted<S: TreeStore>(
+/// As [`eval`], where the variables are in a map by name: none is looked for by a walk.
+pub fn eval_in_map<S: TreeStore>(
     alloc: Global,
     store: &S,
-    vars: &[(Text, Bound)],
+    vars: &BTreeMap<Text, Bound>,
     expr: &Expr,
     trace: &mut Trace,
 ) -> Result<Bound, EvalFault>
-    requires chained { IsChained (S.tree store.now).now }
-    requires sorted { AreSortedByName vars.now }
-    ensures ok { IfOk result (λ b.
-        Evaluates (S.tree store.now).now (vars_of vars.now) (expr_of expr.now) (bound_of b) trace.old trace.new) }
+    requires { IsChained (S.tree store.now).now }
+    ensures ok { IfOk result (λ b. Evaluates (S.tree store.now).now (vars_of vars.now.entries) (expr_of expr.now)
+        (bound_of b) trace.old trace.new) }
     ensures refused { IfErr result (λ f.
         IfSome (eval_cause_of f) (λ why.
-        IsEvalRefused (S.tree store.now).now (vars_of vars.now) (expr_of expr.now) why)) }
+        IsEvalRefused (S.tree store.now).now (vars_of vars.now.entries) (expr_of expr.now) why)) }
     ensures err_trace { OnErr result (trace.new ≡ trace.old) }
 {
     let start = trace.mark();
-    let outcome = evaluate(alloc, store, vars, true, expr, trace);
+    let outcome = evaluate(alloc, store, Variables::Map(vars), expr, trace);
     if outcome.is_err() {
         trace.cut(start);
     }

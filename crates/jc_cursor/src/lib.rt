@@ -7,4 +7,4 @@ mod select;
 mod walk;
 
 pub use bound::Bound;
-pub use evaluating::{EvalFault, eval, eval_sorted};
+pub use evaluating::{EvalFault, eval, eval_in_map};

@@ -49,7 +49,7 @@ before_others names shown ms old mid end sent more =
 pub shown_sent : (names : List (List ℕ)) (shown : Shown) (tree : Context) (old begun before root named vars end : Log) → Logs old begun (map_begins (Some 9))
     → SendsBeforeTree names shown begun before
     → SendsMember (codes "tree") (context_data names tree) before root
-    → Logs root named (field_key (codes "vars") AsIs) → SendsValue (vars_data names (vars_of shown.vars.now)) named vars
+    → Logs root named (field_key (codes "vars") AsIs) → SendsValue (vars_data names (vars_of shown.vars.now.entries)) named vars
     → Logs vars end map_ends → SendsValue (object_of (shown_members names shown tree)) old end
 unfolding shown_members
 shown_sent names shown tree old begun before root named vars end b first m n9 s9 ended =
@@ -57,7 +57,7 @@ shown_sent names shown tree old begun before root named vars end b first m n9 s9
 
 pub briefly_sent : (names : List (List ℕ)) (shown : Shown) (old begun before named vars end : Log) → Logs old begun (map_begins (Some 8))
     → SendsBeforeTree names shown begun before
-    → Logs before named (field_key (codes "vars") AsIs) → SendsValue (vars_data names (vars_of shown.vars.now)) named vars
+    → Logs before named (field_key (codes "vars") AsIs) → SendsValue (vars_data names (vars_of shown.vars.now.entries)) named vars
     → Logs vars end map_ends → SendsValue (object_of (shown_briefly names shown)) old end
 unfolding shown_briefly
 briefly_sent names shown old begun before named vars end b first n8 s8 ended = (begun, b, before_others names shown _ begun before end first (named, vars, n8, s8, ended))

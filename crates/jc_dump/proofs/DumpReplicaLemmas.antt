@@ -24,7 +24,7 @@ pub parts_kept : (A K : State) (shown : Shown) (tree : Context) (left : List Cmd
     → shown.queue.now ≡ ids_of_dumped queue → queue ≡ K.queue
     → shown.recv.now ≡ ids_of_dumped recv → recv ≡ K.recv
     → shown.send.now ≡ ids_of_dumped send → send ≡ K.send
-    → tree ≡ K.tree → vars_of shown.vars.now ≡ K.vars → HasParts A shown tree
+    → tree ≡ K.tree → vars_of shown.vars.now.entries ≡ K.vars → HasParts A shown tree
 parts_kept A K shown tree left ops queue recv send k acted n l o o2 q q2 r r2 s s2 t v = record {
   acted = sym (acted ∙ ap (λ (S : State). S.acted) k);
   left = sym (n ∙ (sym (length-map left cmd_of) ∙ ap length (l ∙ ap (λ (S : State). S.left) k)));

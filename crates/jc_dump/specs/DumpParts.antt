@@ -27,7 +27,7 @@ shown_members names shown tree =
     ∷ (codes "recv", ids_data names shown.recv.now)
     ∷ (codes "send", ids_data names shown.send.now)
     ∷ (codes "tree", context_data names tree)
-    ∷ (codes "vars", vars_data names (vars_of shown.vars.now))
+    ∷ (codes "vars", vars_data names (vars_of shown.vars.now.entries))
     ∷ []
 
 -- the members without the tree, from the parts in memory
@@ -40,7 +40,7 @@ shown_briefly names shown =
     ∷ (codes "queue", ids_data names shown.queue.now)
     ∷ (codes "recv", ids_data names shown.recv.now)
     ∷ (codes "send", ids_data names shown.send.now)
-    ∷ (codes "vars", vars_data names (vars_of shown.vars.now))
+    ∷ (codes "vars", vars_data names (vars_of shown.vars.now.entries))
     ∷ []
 
 -- a member is sent: its name, then its value
@@ -67,4 +67,4 @@ pub record HasParts (A : State) (shown : Shown) (tree : Context) : Type 0 where
   pub recv : ids_of_dumped A.recv ≡ shown.recv.now
   pub send : ids_of_dumped A.send ≡ shown.send.now
   pub tree_is : A.tree ≡ tree
-  pub vars : A.vars ≡ vars_of shown.vars.now
+  pub vars : A.vars ≡ vars_of shown.vars.now.entries

@@ -18,6 +18,7 @@ use jc_tree::TreeStore;
 use serde::{Described, Serialize, Serializer};
 use serde_json::Error;
 use std::alloc::{AllocError, Global};
+use std::collections::BTreeMap;
 
 /// What a dump shows of a replica beside its tree.
 #[derive(Clone, Copy)]
@@ -35,7 +36,7 @@ pub(crate) struct Shown<'a> {
     pub(crate) recv: &'a [Id],
     /// Those of the operations that it offers.
     pub(crate) send: &'a [Id],
-    pub(crate) vars: &'a [(Text, Bound)],
+    pub(crate) vars: &'a BTreeMap<Text, Bound>,
 }
 
 /// A replica's dump, which `serde` sends to a writer.

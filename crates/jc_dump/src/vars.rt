@@ -94,16 +94,16 @@ pub(crate) fn send_bound<W: Serializer>(
     out.end_map()
 }
 
-/// Sorts the variables by name.
+/// The variables by the texts of their names.
 fn by_name<'a>(
     alloc: Global,
-    vars: &'a [(Text, Bound)],
+    vars: &'a BTreeMap<Text, Bound>,
 ) -> Result<BTreeMap<String, &'a Bound>, AllocError>
-    ensures { IfOk result (λ found. (names : List (List ℕ))
-        → shown_as (bound_shown names) found.entries ≡ put_all (map (var_member names) (vars_of vars.now)) no_members) }
+    ensures { IfOk result (λ found. (names : List (List ℕ)) → shown_as (bound_shown names) found.entries
+        ≡ put_all (map (var_member names) (vars_of vars.now.entries)) no_members) }
 {
     let mut found = BTreeMap::new(alloc);
-    for (name, bound) in vars {
+    for (name, bound) in vars.iter() {
         let name = String::from_str(alloc, name.as_str())?;
         drop(found.insert(name, bound)?);
     }
@@ -114,10 +114,10 @@ fn by_name<'a>(
 pub(crate) fn send_vars<W: Serializer>(
     alloc: Global,
     names: &[Text],
-    vars: &[(Text, Bound)],
+    vars: &BTreeMap<Text, Bound>,
     out: &mut W,
 ) -> Result<(), W::Error>
-    ensures { OnOk result (SendsValue (vars_data names.now (vars_of vars.now))
+    ensures { OnOk result (SendsValue (vars_data names.now (vars_of vars.now.entries))
         (W.written out.old) (W.written out.new)) }
 {
     let found = granted(by_name(alloc, vars), out)?;

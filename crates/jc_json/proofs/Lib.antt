@@ -2,6 +2,7 @@ pub mod PartsSendLemmas
 pub mod PartsListsLemmas
 pub mod PartsPlacesLemmas
 pub mod PartsTextsLemmas
+pub mod PartsOrderLemmas
 pub mod PartsMembersLemmas
 pub mod PartsKindsLemmas
 pub mod JsonFloatsLemmas

@@ -1,14 +1,11 @@
 -- About Parts: the members of one kind, one key after the other in the order of their texts.
 use Rattle.std.proofs.Common.{◌≡◌, ◌≢◌, ℕ, List, [], ◌∷◌, ◌++◌, map, cond, Bool, true, false, Some, None, nat_cmp, nat_eq, string_bytes, refl, sym, ap, ◌∙◌, subst}
 use Rattle.std.specs.List.{AllByRecursion}
-use Rattle.std.specs.List.Sorted.{IsStrictlySortedBy}
-use Rattle.std.specs.Map.{keys_of as map_keys}
 use Rattle.std.specs.Ordering.{ordering_then, is_eq}
 use Rattle.std.specs.declared.cmp.Ordering.{Ordering}
 use Rattle.std.specs.declared.cmp.Ordering.TheVariants.{Less, Equal, Greater}
 use Rattle.std.specs.Cmp.{tied_itself, unsigned_ties}
 use Rattle.std.specs.Cmp.Lexicographic.{pointwise, lists_ties}
-use Rattle.std.proofs.lemmas.Map.Keys.{sorted_head, sorted_tail}
 use Rattle.serde_json.specs.Data.{no_members, member, put}
 use Rattle.jc_rules.specs.declared.key.Tagged.{Tagged}
 use Rattle.jc_rules.specs.Order.{key_cmp, name_cmp}
@@ -21,9 +18,9 @@ use Rattle.jc_tree.specs.Walks.{entry_of, entries_at}
 use Rattle.jc_json.specs.declared.tree.Kind.{Kind}
 use Rattle.jc_json.specs.declared.tree.Member.{Member}
 use Rattle.jc_json.specs.Json.{closed_text, put_all}
-use Rattle.jc_json.specs.Parts.{LentText, Texts, word_of, member_of, keys_in, shown_in, HasTexts, part_data, IsPartAt, name_of, members_data, ArePartsAt, with_last, AreMembersOfKind}
+use Rattle.jc_json.specs.Parts.{LentText, Texts, word_of, member_of, keys_in, shown_in, HasTexts, text_cmp, AreInOrder, part_data, IsPartAt, name_of, members_data, ArePartsAt, with_last, AreMembersOfKind}
 use Rattle.jc_json.proofs.PartsListsLemmas.{put_equal, put_greater}
-use Rattle.jc_json.proofs.PartsTextsLemmas.{text_cmp, under}
+use Rattle.jc_json.proofs.PartsTextsLemmas.{under}
 
 abbrev pub texts_of : List Member → List (List ℕ)
 texts_of ms = map (λ (m : Member). m.text.now) ms
@@ -162,7 +159,7 @@ pub record AreSoFar (named : Place → List Tagged → Type 0) (at : List Tagged
   pub kinds : AllByRecursion (λ (m : Member). m.kind ≡ kind) ms
   pub rising : IsRising name_cmp (texts_of ms)
   pub low : AllByRecursion (λ (t : LentText). AllByRecursion (λ (m : Member). name_cmp (string_bytes t.0.0) m.text.now ≢ Less) ms) left
-  pub sorted : IsStrictlySortedBy text_cmp (map_keys left)
+  pub order : AreInOrder left
   pub parts : ArePartsAt named at c ms
 
 module _ (named : Place → List Tagged → Type 0) (at : List Tagged) (c : Context) (kind : Kind) where
@@ -170,17 +167,17 @@ module _ (named : Place → List Tagged → Type 0) (at : List Tagged) (c : Cont
   none_low [] = tt
   none_low (t ∷ ts) = (tt, none_low ts)
 
-  pub so_far_begins : (all left : Texts) → left ≡ all → IsStrictlySortedBy text_cmp (map_keys all) → AreSoFar named at c kind all left []
+  pub so_far_begins : (all left : Texts) → left ≡ all → AreInOrder all → AreSoFar named at c kind all left []
   so_far_begins all left is s = subst (λ ts. AreSoFar named at c kind all ts []) (sym is) (record {
     shown = λ names h. (h, refl);
     kinds = tt;
     rising = tt;
     low = none_low all;
-    sorted = s;
+    order = s;
     parts = tt;
   })
 
-  all_higher : (t : LentText) (rest : Texts) (ms : List Member) → AllByRecursion (λ s. text_cmp t.0 s ≡ Less) (map_keys rest) → AllByRecursion (λ (m : Member). name_cmp (string_bytes t.0.0) m.text.now ≢ Less) ms
+  all_higher : (t : LentText) (rest : Texts) (ms : List Member) → AllByRecursion (λ (u : LentText). text_cmp t.0 u.0 ≡ Less) rest → AllByRecursion (λ (m : Member). name_cmp (string_bytes t.0.0) m.text.now ≢ Less) ms
       → AllByRecursion (λ (u : LentText). AllByRecursion (λ (m : Member). name_cmp (string_bytes u.0.0) m.text.now ≢ Less) ms) rest
   all_higher t [] ms a l = tt
   all_higher t (u ∷ rest) ms a l = (higher (string_bytes t.0.0) (string_bytes u.0.0) (nat_cmp t.0.1 u.0.1) ms a.0 l, all_higher t rest ms a.1 l)
@@ -199,7 +196,7 @@ module _ (named : Place → List Tagged → Type 0) (at : List Tagged) (c : Cont
           kinds = g.kinds;
           rising = g.rising;
           low = g.low.1;
-          sorted = sorted_tail text_cmp t.0 (map_keys rest) g.sorted;
+          order = g.order.1;
           parts = g.parts;
         }
 
@@ -222,8 +219,8 @@ module _ (named : Place → List Tagged → Type 0) (at : List Tagged) (c : Cont
               );
           kinds = v.kinds;
           rising = v.rising;
-          low = all_higher t rest (with_last m ms) (sorted_head text_cmp t.0 (map_keys rest) g.sorted) (subst (λ (x : List ℕ). AllByRecursion (λ (l : Member). name_cmp x l.text.now ≢ Less) (with_last m ms)) e v.low);
-          sorted = sorted_tail text_cmp t.0 (map_keys rest) g.sorted;
+          low = all_higher t rest (with_last m ms) g.order.0 (subst (λ (x : List ℕ). AllByRecursion (λ (l : Member). name_cmp x l.text.now ≢ Less) (with_last m ms)) e v.low);
+          order = g.order.1;
           parts = all_with (λ (l : Member). IsPartAt named at c l.part) m ms p g.parts;
         })
 

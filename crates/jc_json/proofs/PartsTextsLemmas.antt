@@ -1,8 +1,6 @@
 -- About Parts: the keys by their texts make the same members as the keys in their own order.
 use Rattle.std.proofs.Common.{◌≡◌, ℕ, ◌+◌, ◌<◌, List, [], ◌∷◌, ◌++◌, map, Option, Some, None, Contains, String, Global, Bor, nat_cmp, string_cmp, string_bytes, refl, sym, ap, ◌∙◌, subst, arith}
 use Rattle.std.specs.List.{AllByRecursion}
-use Rattle.std.specs.List.Sorted.{IsStrictlySortedBy}
-use Rattle.std.specs.Map.{keys_of as map_keys}
 use Rattle.std.specs.Ordering.{ordering_then, MatchOrdering}
 use Rattle.std.specs.declared.cmp.Ordering.{Ordering}
 use Rattle.std.specs.declared.cmp.Ordering.TheVariants.{Less, Equal, Greater}
@@ -10,7 +8,6 @@ use Rattle.std.specs.Cmp.{tied_itself, nat_cmp_total}
 use Rattle.std.specs.BTreeMap.{insert_entry}
 use Rattle.std.proofs.lemmas.Cmp.{ranked}
 use Rattle.std.proofs.lemmas.List.{map-append}
-use Rattle.std.proofs.lemmas.Map.Keys.{sorted_head, sorted_tail}
 use Rattle.serde_json.specs.Data.{Data, Members}
 use Rattle.jc_rules.specs.declared.key.Key.{Key}
 use Rattle.jc_rules.specs.Order.{key_cmp, name_cmp}
@@ -23,13 +20,9 @@ use Rattle.jc_tree.specs.Tree.{all_keys}
 use Rattle.jc_tree.specs.Walks.{entry_of, entries_at}
 use Rattle.jc_tree.proofs.WalksEntriesLemmas.{all_entries}
 use Rattle.jc_json.specs.Json.{closed_text, put_all}
-use Rattle.jc_json.specs.Parts.{LentText, Texts, word_of, member_of, keys_in, shown_in, HasTexts, AreTextsOf}
+use Rattle.jc_json.specs.Parts.{LentText, Texts, word_of, member_of, keys_in, shown_in, HasTexts, text_cmp, AreInOrder, AreTextsOf}
 use Rattle.jc_json.proofs.PartsPlacesLemmas.{shown_rises, shown_among}
 use Rattle.jc_json.proofs.PartsListsLemmas.{put_all-append, put_past}
-
--- texts by their bytes, those of one text by their numbers
-abbrev pub text_cmp : String Global × ℕ → String Global × ℕ → Ordering
-text_cmp s t = ordering_then (string_cmp s.0 t.0) (nat_cmp s.1 t.1)
 
 -- a beginning that names share doesn't decide
 pub under : (w s t : List ℕ) → name_cmp (w ++ s) (w ++ t) ≡ name_cmp s t
@@ -37,7 +30,7 @@ under [] s t = refl
 under (x ∷ w) s t = ap (λ o. ordering_then o (name_cmp (w ++ s) (w ++ t))) (tied_itself nat_cmp_total x) ∙ under w s t
 
 -- a greater number
-over : (m n : ℕ) → m < n → nat_cmp n m ≡ Greater
+pub over : (m n : ℕ) → m < n → nat_cmp n m ≡ Greater
 over m n h = go (nat_cmp n m) refl (ranked n m (nat_cmp n m) refl)
   where
     go : (o : Ordering) → nat_cmp n m ≡ o → MatchOrdering o (n < m) (n ≡ m) (m < n) → nat_cmp n m ≡ Greater
@@ -57,14 +50,14 @@ less_then r s t o h e = go (name_cmp s t) refl
 -- ---- one more key among the texts
 
 module _ (t : String Global) (n : ℕ) (v : Bor Key × Hint) (u : LentText) (ts : Texts) where
-  goes_first : text_cmp (t, n) u.0 ≡ Less → insert_entry text_cmp (u ∷ ts) (t, n) v ≡ ((t, n), v) ∷ u ∷ ts
+  pub goes_first : text_cmp (t, n) u.0 ≡ Less → insert_entry text_cmp (u ∷ ts) (t, n) v ≡ ((t, n), v) ∷ u ∷ ts
   goes_first h = rw h refl
 
-  goes_on : text_cmp (t, n) u.0 ≡ Greater → insert_entry text_cmp (u ∷ ts) (t, n) v ≡ u ∷ insert_entry text_cmp ts (t, n) v
+  pub goes_on : text_cmp (t, n) u.0 ≡ Greater → insert_entry text_cmp (u ∷ ts) (t, n) v ≡ u ∷ insert_entry text_cmp ts (t, n) v
   goes_on h = rw h refl
 
 -- what is true of all is true with one more, of the greatest number
-all_inserted : (P : LentText → Type 0) (ts : Texts) (t : String Global) (n : ℕ) (v : Bor Key × Hint) → AllByRecursion (λ (u : LentText). u.0.1 < n) ts → P ((t, n), v) → AllByRecursion P ts
+pub all_inserted : (P : LentText → Type 0) (ts : Texts) (t : String Global) (n : ℕ) (v : Bor Key × Hint) → AllByRecursion (λ (u : LentText). u.0.1 < n) ts → P ((t, n), v) → AllByRecursion P ts
     → AllByRecursion P (insert_entry text_cmp ts (t, n) v)
 all_inserted P [] t n v l p a = (p, tt)
 all_inserted P (u ∷ ts) t n v l p a = go (string_cmp t u.0.0) refl (all_inserted P ts t n v l.1 p a.1)
@@ -114,7 +107,7 @@ module _ (names : List (List ℕ)) (w : List ℕ) (es : List (Key × Data)) wher
       ∙ ap (put_all (of_key k)) (sym (of_keys-cons j ks ms))
 
   -- what comes after a greater text is greater
-  all_over : (k : Key) (u : String Global × ℕ) (ts : Texts) → name_cmp (closed_text names k) (string_bytes u.0) ≡ Less → AllByRecursion (λ s. text_cmp u s ≡ Less) (map_keys ts) → HasTexts names ts
+  all_over : (k : Key) (u : String Global × ℕ) (ts : Texts) → name_cmp (closed_text names k) (string_bytes u.0) ≡ Less → AllByRecursion (λ (t : LentText). text_cmp u t.0 ≡ Less) ts → HasTexts names ts
       → AllByRecursion (λ j. name_cmp (closed_text names k) (closed_text names j) ≡ Less) (keys_in ts)
   all_over k u [] h a s = tt
   all_over k u (t ∷ ts) h a s = (
@@ -123,10 +116,10 @@ module _ (names : List (List ℕ)) (w : List ℕ) (es : List (Key × Data)) wher
   )
 
   -- a key that is put among the texts is put last, as far as the members show
-  inserted : (ts : Texts) (t : String Global) (n : ℕ) (v : Bor Key × Hint) (ms : Members) → IsStrictlySortedBy text_cmp (map_keys ts) → AllByRecursion (λ (u : LentText). u.0.1 < n) ts → HasTexts names ts → string_bytes t ≡ closed_text names v.0.now
+  inserted : (ts : Texts) (t : String Global) (n : ℕ) (v : Bor Key × Hint) (ms : Members) → AreInOrder ts → AllByRecursion (λ (u : LentText). u.0.1 < n) ts → HasTexts names ts → string_bytes t ≡ closed_text names v.0.now
       → put_all (of_keys (keys_in (insert_entry text_cmp ts (t, n) v))) ms ≡ put_all (of_key v.0.now) (put_all (of_keys (keys_in ts)) ms)
   inserted [] t n v ms s l h e = of_keys-cons v.0.now [] ms
-  inserted (u ∷ ts) t n v ms s l h e = go (string_cmp t u.0.0) refl (inserted ts t n v (put_all (of_key u.1.0.now) ms) (sorted_tail text_cmp u.0 (map_keys ts) s) l.1 h.1 e)
+  inserted (u ∷ ts) t n v ms s l h e = go (string_cmp t u.0.0) refl (inserted ts t n v (put_all (of_key u.1.0.now) ms) s.1 l.1 h.1 e)
     where
       further : text_cmp (t, n) u.0 ≡ Greater → put_all (of_keys (keys_in (insert_entry text_cmp ts (t, n) v))) (put_all (of_key u.1.0.now) ms) ≡ put_all (of_key v.0.now) (put_all (of_keys (keys_in ts)) (put_all (of_key u.1.0.now) ms)) → put_all (of_keys (keys_in (insert_entry text_cmp (u ∷ ts) (t, n) v))) ms ≡ put_all (of_key v.0.now) (put_all (of_keys (keys_in (u ∷ ts))) ms)
       further g ih =
@@ -141,13 +134,11 @@ module _ (names : List (List ℕ)) (w : List ℕ) (es : List (Key × Data)) wher
           let first : name_cmp (closed_text names v.0.now) (closed_text names u.1.0.now) ≡ Less = subst (λ (x : List ℕ). name_cmp (closed_text names v.0.now) x ≡ Less) h.0 low in
           ap (λ us. put_all (of_keys (keys_in us)) ms) (goes_first t n v u ts (ap (λ o. ordering_then o (nat_cmp n u.0.1)) f))
           ∙ of_keys-cons v.0.now (keys_in (u ∷ ts)) ms
-          ∙ keys_past v.0.now (keys_in (u ∷ ts)) ms (first, all_over v.0.now u.0 ts low (sorted_head text_cmp u.0 (map_keys ts) s) h.1)
+          ∙ keys_past v.0.now (keys_in (u ∷ ts)) ms (first, all_over v.0.now u.0 ts low s.0 h.1)
       go Equal f ih = further (ap (λ o. ordering_then o (nat_cmp n u.0.1)) f ∙ over u.0.1 n l.0) ih
       go Greater f ih = further (ap (λ o. ordering_then o (nat_cmp n u.0.1)) f) ih
 
--- ---- the entries of all keys
-
--- ---- the loop over the keys
+-- ---- one key after the other
 
 all_weaker : (ts : Texts) (n : ℕ) → AllByRecursion (λ (t : LentText). t.0.1 < n) ts → AllByRecursion (λ (t : LentText). t.0.1 < n + 1) ts
 all_weaker [] n a = tt
@@ -163,7 +154,7 @@ module _ (names : List (List ℕ)) where
   pub texts_begin : AreTextsSoFar names [] 0 []
   texts_begin = record { texts = tt; numbers = tt; members = λ w es ms. refl }
 
-  pub texts_go_on : (ks : List Key) (n : ℕ) (ts new : Texts) (t : String Global) (v : Bor Key × Hint) → IsStrictlySortedBy text_cmp (map_keys ts) → string_bytes t ≡ closed_text names v.0.now → new ≡ insert_entry text_cmp ts (t, n) v
+  pub texts_go_on : (ks : List Key) (n : ℕ) (ts new : Texts) (t : String Global) (v : Bor Key × Hint) → AreInOrder ts → string_bytes t ≡ closed_text names v.0.now → new ≡ insert_entry text_cmp ts (t, n) v
       → AreTextsSoFar names ks n ts → AreTextsSoFar names (ks ++ v.0.now ∷ []) (n + 1) new
   texts_go_on ks n ts new t v s e is f = subst (AreTextsSoFar names (ks ++ v.0.now ∷ []) (n + 1)) (sym is) (record {
     texts = all_inserted (λ (u : LentText). string_bytes u.0.0 ≡ closed_text names u.1.0.now) ts t n v f.numbers e f.texts;

@@ -1,7 +1,10 @@
 -- The members of a context, kind by kind and by the texts of their keys, by which the code sends it; jc_dump cites
 -- `shown_as`.
-use Rattle.std.specs.Prelude.{◌≡◌, ⊤, ℕ, List, [], ◌∷◌, ◌++◌, map, codes, nat_eq, true, cond, is_some, String, string_bytes}
+use Rattle.std.specs.Prelude.{◌≡◌, ⊤, ℕ, ◌+◌, List, [], ◌∷◌, ◌++◌, map, codes, nat_eq, true, cond, is_some, String, string_bytes, string_cmp}
 use Rattle.std.specs.List.{AllByRecursion}
+use Rattle.std.specs.Ordering.{nat_cmp, ordering_then}
+use Rattle.std.specs.declared.cmp.Ordering.{Ordering}
+use Rattle.std.specs.declared.cmp.Ordering.TheVariants.{Less}
 use Rattle.std.specs.Borrow.{Bor}
 use Rattle.std.specs.Cmp.Lexicographic.{pointwise}
 use Rattle.std.specs.declared.alloc.Global.{Global}
@@ -73,6 +76,26 @@ keys_in ts = map (λ (t : LentText). t.1.0.now) ts
 -- each text is that of its key
 abbrev pub HasTexts : List (List ℕ) → Texts → Type 0
 HasTexts names ts = AllByRecursion (λ (t : LentText). string_bytes t.0.0 ≡ closed_text names t.1.0.now) ts
+
+-- the numbers rise by one, from n on
+abbrev pub AreNumbered : ℕ → Texts → Type 0
+AreNumbered n [] = ⊤
+AreNumbered n (t ∷ ts) = (t.0.1 ≡ n) × AreNumbered (n + 1) ts
+
+-- These keys with their texts and numbers, in their own order.
+pub record AreTextsFrom (names : List (List ℕ)) (ks : List Key) (ts : Texts) : Type 0 where
+  pub texts : HasTexts names ts
+  pub numbers : AreNumbered 0 ts
+  pub keys : keys_in ts ≡ ks
+
+-- texts by their bytes, those of one text by their numbers
+abbrev pub text_cmp : String Global × ℕ → String Global × ℕ → Ordering
+text_cmp s t = ordering_then (string_cmp s.0 t.0) (nat_cmp s.1 t.1)
+
+-- each is below those after it
+abbrev pub AreInOrder : Texts → Type 0
+AreInOrder [] = ⊤
+AreInOrder (t ∷ ts) = AllByRecursion (λ (u : LentText). text_cmp t.0 u.0 ≡ Less) ts × AreInOrder ts
 
 -- Of each kind, the members of these keys one after the other make the object of all members.
 pub record AreTextsOf (names : List (List ℕ)) (c : Context) (ts : Texts) : Type 0 where

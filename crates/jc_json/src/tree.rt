@@ -4,9 +4,9 @@ ghost use Rattle.std.specs.Prelude.{◌≡◌, ℕ, List, [], ◌∷◌, ◌++�
 ghost use Rattle.serde_json.specs.Events.{SendsValue};
 ghost use Rattle.jc_rules.specs.Order.{key_cmp};
 ghost use Rattle.jc_rules.specs.Entries.{find};
-ghost use Rattle.jc_tree.specs.Tree.{HasPlace, here};
+ghost use Rattle.jc_tree.specs.Tree.{HasPlace, here, keys_lent};
 ghost use Rattle.jc_json.specs.Json.{context_data};
-ghost use Rattle.jc_json.specs.Parts.{tag_of, word_of, shown_in, part_data, IsPartAt, name_of, with_last, AreTextsOf, AreMembersOfKind, AreMembersOf};
+ghost use Rattle.jc_json.specs.Parts.{tag_of, word_of, shown_in, part_data, IsPartAt, name_of, with_last, AreTextsFrom, AreInOrder, AreTextsOf, AreMembersOfKind, AreMembersOf};
 
 use crate::send::{granted, send_ids, send_register};
 use crate::texts::{closed_text, next_text};
@@ -14,7 +14,6 @@ use jc_rules::{Id, Key, Next, Tagged, Text, Value};
 use jc_tree::{Hint, Place, TreeStore};
 use serde::{Described, Serialize, Serializer};
 use std::alloc::{AllocError, Global};
-use std::collections::BTreeMap;
 
 /// The kinds of a context's members, in the order of their words.
 #[derive(Clone, Copy)]
@@ -87,11 +86,26 @@ impl Member<'_> {
     }
 }
 
-/// The keys of a context by their texts, each with its number in the order of the keys. So those with
-/// one text are in that order.
-type Texts<'a> = BTreeMap<(String, usize), (&'a Key, Hint)>;
+/// The keys of a context, each with its text and its number in the order of the keys.
+type Texts<'a> = Vec<((String, usize), (&'a Key, Hint))>;
 
-/// The keys of the context at a place by their texts.
+/// The keys with their texts, in the order in which they are given.
+fn texts_of<'a>(
+    alloc: Global,
+    names: &[Text],
+    keys: &[(&'a Key, Hint)],
+) -> Result<Texts<'a>, AllocError>
+    ensures { IfOk result (λ texts. AreTextsFrom names.now (keys_lent keys.now) texts.items) }
+{
+    let mut texts = Vec::with_capacity(alloc, keys.len())?;
+    for (number, lent) in keys.iter().enumerate() {
+        let text = closed_text(alloc, names, lent.0)?;
+        texts.push(((text, number), *lent))?;
+    }
+    Ok(texts)
+}
+
+/// The keys of the context at a place in the order of their texts. Those with one text are in the order of the keys.
 fn texts_at<'a, S: TreeStore>(
     alloc: Global,
     names: &[Text],
@@ -101,14 +115,12 @@ fn texts_at<'a, S: TreeStore>(
 ) -> Result<Texts<'a>, AllocError>
     requires there { HasPlace at.now (S.tree store.now) }
     requires named { S.names store.now place at.now }
-    ensures { IfOk result (λ texts. AreTextsOf names.now (here at.now (S.tree store.now)) texts.entries) }
+    ensures order { IfOk result (λ texts. AreInOrder texts.items) }
+    ensures texts { IfOk result (λ texts. AreTextsOf names.now (here at.now (S.tree store.now)) texts.items) }
 {
     let keys = store.keys_at(alloc, place, at)?;
-    let mut texts = BTreeMap::new(alloc);
-    for (number, lent) in keys.as_slice().iter().enumerate() {
-        let text = closed_text(alloc, names, lent.0)?;
-        drop(texts.insert((text, number), *lent)?);
-    }
+    let mut texts = texts_of(alloc, names, keys.as_slice())?;
+    texts.sort_by(|one, other| one.0.cmp(&other.0))?;
     Ok(texts)
 }
 
@@ -166,11 +178,12 @@ fn members_of<'a, S: TreeStore>(
 ) -> Result<Vec<Member<'a>>, AllocError>
     requires there { HasPlace at.now (S.tree store.now) }
     requires named { S.names store.now place at.now }
+    requires order { AreInOrder texts.now.items }
     ensures { IfOk result (λ members. AreMembersOfKind (S.names store.now) at.now (here at.now (S.tree store.now))
-        kind texts.now.entries members.items) }
+        kind texts.now.items members.items) }
 {
     let mut members = Vec::new(alloc);
-    for (text, lent) in texts.iter() {
+    for (text, lent) in texts.as_slice() {
         if let Some(part) = part_at(store, place, at, kind, lent.0, lent.1) {
             let text = text.0.as_str();
             put_last(&mut members, Member { kind, text, part })?;
@@ -189,8 +202,9 @@ fn members_at<'a, S: TreeStore>(
 ) -> Result<Vec<Member<'a>>, AllocError>
     requires there { HasPlace at.now (S.tree store.now) }
     requires named { S.names store.now place at.now }
+    requires order { AreInOrder texts.now.items }
     ensures { IfOk result (λ members. (names : List (List ℕ))
-        → AreTextsOf names (here at.now (S.tree store.now)) texts.now.entries
+        → AreTextsOf names (here at.now (S.tree store.now)) texts.now.items
         → AreMembersOf (S.names store.now) at.now names (here at.now (S.tree store.now)) members.items) }
 {
     let mut members = members_of(alloc, store, place, at, Kind::List, texts)?;

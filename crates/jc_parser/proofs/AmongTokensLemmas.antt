@@ -1,5 +1,5 @@
 -- About `Laws` and `EventLaws`: at most one script or event begins at a token, or there is one fault.
-use Rattle.std.proofs.Common.{◌≡◌, ℕ, ◌+◌, ◌-◌, ◌≤◌, ◌<◌, ◌⊎◌, inl, inr, List, [], ◌∷◌, ◌++◌, length, drop, refl, sym, ap, subst, ◌∙◌, arith}
+use Rattle.std.proofs.Common.{◌≡◌, ℕ, ◌+◌, ◌-◌, ◌≤◌, ◌<◌, inl, inr, List, [], ◌∷◌, length, drop, sym, ap, subst, ◌∙◌, arith}
 use Rattle.std.specs.Prelude.{slice_range}
 use Rattle.std.proofs.lemmas.List.{length-append, length-drop, length-map}
 use Rattle.jc_rules.specs.Syntax.{Cmd}
@@ -9,7 +9,6 @@ use Rattle.jc_syntax.specs.declared.tree.NamedEvent.{NamedEvent}
 use Rattle.jc_grammar.specs.Symbols.{Lexeme, lexeme, lexemes}
 use Rattle.jc_grammar.specs.Grammar.{leaves}
 use Rattle.jc_grammar.specs.ScenarioGrammar.{script, closed_script, event}
-use Rattle.jc_parser.specs.declared.fault.ScenarioFault.{ScenarioFault}
 use Rattle.jc_parser.specs.Sentences.{IsAhead}
 use Rattle.jc_parser.specs.GrammarTrees.{closed_script_of_tree, event_of_tree}
 use Rattle.jc_parser.specs.Scripts.{IsClosedScript, IsScriptAt}

@@ -1,5 +1,5 @@
 -- About `Scenarios`: the readers of scenarios read what the grammar's reader reads, and so what is read is the scenario.
-use Rattle.std.proofs.Common.{◌≡◌, ℕ, zero, suc, ◌+◌, ◌-◌, ◌≤◌, ◌⊎◌, inl, inr, Bool, true, false, ◌||◌, List, [], ◌∷◌, ◌++◌, length, Ok, Err, refl, sym, ap, ◌∙◌, arith}
+use Rattle.std.proofs.Common.{◌≡◌, ℕ, zero, suc, ◌+◌, ◌-◌, ◌≤◌, inl, inr, Bool, true, false, ◌||◌, List, [], ◌∷◌, ◌++◌, length, Ok, Err, refl, sym, ap, ◌∙◌, arith}
 use Rattle.std.specs.Prelude.{codes, nat_lt}
 use Rattle.std.specs.Str.{bytes_eq}
 use Rattle.std.proofs.lemmas.Bool.{cases_Bool, lt-ltb, le-ltb}
@@ -30,7 +30,7 @@ use Rattle.jc_parser.proofs.GrammarEventsLemmas.{agrees_event}
 use Rattle.jc_parser.proofs.GrammarListsLemmas.{RefusesWith, AlwaysBeginsBy, agrees_listed}
 use Rattle.jc_parser.proofs.GrammarScriptsLemmas.{agrees_closed_script}
 use Rattle.jc_parser.proofs.GrammarStatesLemmas.{ok_bind, same_ok, ok_with, read_keeps, script_keeps, AgreeTo, same_read}
-use Rattle.jc_parser.specs.Scenarios.{Part, NamedTree, tree, with_replica_part, IsNamedTree, IsTreeFault}
+use Rattle.jc_parser.specs.Scenarios.{NamedTree, tree, with_replica_part, IsNamedTree, IsTreeFault}
 use Rattle.jc_parser.proofs.GuardsLemmas.{IsTold, misfit_told}
 use Rattle.jc_parser.proofs.SentencesLemmas.{IsExactly, exactly_so, reads_exactly, given_whole}
 

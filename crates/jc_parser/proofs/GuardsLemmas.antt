@@ -1,6 +1,6 @@
 -- About `Guards`: which guards a grammar has, and what they refuse. No text has the fault that memory ran out, and what
 -- has none of the guards of scenarios has a fault of sentences.
-use Rattle.std.proofs.Common.{◌≡◌, ◌≢◌, ℕ, zero, suc, ◌⊎◌, inl, inr, Bool, true, false, ◌&&◌, cond, List, [], ◌∷◌, Result, Ok, Err, refl, sym, ap, subst, ◌∙◌}
+use Rattle.std.proofs.Common.{◌≡◌, ◌≢◌, ℕ, zero, suc, ◌⊎◌, inl, inr, Bool, true, false, ◌&&◌, cond, List, [], ◌∷◌, Result, Ok, Err, refl, subst}
 use Rattle.std.specs.Prelude.{nat_lt, length, codes}
 use Rattle.std.proofs.lemmas.Bool.{cases_Bool}
 use Rattle.jc_rules.specs.declared.limits.TheConstants.{MAX_SELECTORS, MAX_COMMANDS}
@@ -10,7 +10,7 @@ use Rattle.jc_rules.specs.declared.version.Version.TheVariants.{One, Two}
 use Rattle.jc_syntax.specs.declared.token.TokenKind.TheVariants.{Semi}
 use Rattle.jc_grammar.specs.Symbols.{Lexeme}
 use Rattle.jc_grammar.specs.SymbolTests.{value_of_symbol, numeral_value, is_word, is_reserved, is_misused}
-use Rattle.jc_grammar.specs.Classes.{Class, is_of, is_in}
+use Rattle.jc_grammar.specs.Classes.{is_of, is_in}
 use Rattle.jc_grammar.specs.Guards.{Misfit, GuardState, Verdict, refuses, passes, Guard, small_index, free_binding, free_root, dot_seen, new_replica, no_selector, no_command, no_event, verdict_of}
 use Rattle.jc_grammar.specs.Grammar.{Grammar, symbol, nothing, ◌then◌, ◌or◌, guarded, listed, chained, repeated, ParseTree, NoticedFault, verdict_at}
 use Rattle.jc_grammar.specs.LookAhead.{begins_with_any, first_classes}

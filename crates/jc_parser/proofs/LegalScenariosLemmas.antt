@@ -1,5 +1,5 @@
 -- About `LegalSymbolLaws`: the replicas, the given events and the schedule of a scenario's tree are legal.
-use Rattle.std.proofs.Common.{◌≡◌, ◌≢◌, ℕ, zero, suc, ◌+◌, ◌-◌, ◌≤◌, ◌<◌, inl, inr, true, false, ◌&&◌, ◌||◌, List, [], ◌∷◌, ◌++◌, map, length, None, refl, sym, ap, subst, ◌∙◌, arith}
+use Rattle.std.proofs.Common.{◌≡◌, ◌≢◌, ℕ, zero, suc, ◌+◌, ◌-◌, ◌≤◌, ◌<◌, inl, inr, true, false, List, [], ◌∷◌, map, length, None, refl, sym, ap, subst, ◌∙◌, arith}
 use Rattle.std.specs.Prelude.{codes, nat_lt}
 use Rattle.std.specs.List.{All, AllPairs, slice_range}
 use Rattle.std.specs.Str.{IsUtf8, bytes_eq}
@@ -20,18 +20,17 @@ use Rattle.jc_grammar.specs.Symbols.{Lexeme, lexemes, symbols}
 use Rattle.jc_grammar.specs.SymbolTests.{is_reserved}
 use Rattle.jc_grammar.specs.Classes.{is_in}
 use Rattle.jc_grammar.specs.Guards.{GuardState, Verdict, refuses, passes, Guard, verdict_of, new_replica, no_event, nothing_seen}
-use Rattle.jc_grammar.specs.Grammar.{Grammar, symbol, nothing, ◌then◌, ◌or◌, guarded, repeated, ParseTree, leaves, verdict_at, state_by, state_after, first_refusal}
+use Rattle.jc_grammar.specs.Grammar.{Grammar, symbol, nothing, ◌then◌, ◌or◌, guarded, repeated, ParseTree, leaves, verdict_at, state_by, state_after}
 use Rattle.jc_grammar.specs.Faults.{IsTreeText}
 use Rattle.jc_grammar.specs.ScenarioGrammar.{token, keyword, script, closed_script, event, events, block, blocks, replica, body, scenario}
 use Rattle.jc_grammar.proofs.LookAheadLemmas.{both_true}
 use Rattle.jc_grammar.proofs.LimitsLemmas.{limits_kept}
-use Rattle.jc_parser.specs.NamedTrees.{Call, call_of, Part, name_of_part, NamedTree, tree, with_replica_part, tree_of_named}
-use Rattle.jc_parser.specs.GrammarTrees.{value_of, closed_script_of_tree, event_of_tree, events_of_tree, any_block_of_tree, blocks_of_tree, replica_of_tree, tail_of_tree, body_of_tree, scenario_of_tree}
-use Rattle.jc_parser.specs.Sentences.{IsSentence}
+use Rattle.jc_parser.specs.NamedTrees.{Call, call_of, Part, name_of_part, NamedTree, with_replica_part, tree_of_named}
+use Rattle.jc_parser.specs.GrammarTrees.{value_of, event_of_tree, events_of_tree, any_block_of_tree, blocks_of_tree, replica_of_tree, tail_of_tree, body_of_tree, scenario_of_tree}
 use Rattle.jc_parser.specs.Scripts.{IsScriptWellFormed}
 use Rattle.jc_parser.specs.Events.{IsCallWellFormed, HasCall}
-use Rattle.jc_parser.specs.Scenarios.{ArePartsWithin, IsTreeWithin}
-use Rattle.jc_parser.specs.LegalSymbols.{IsLegalCmd, IsLegalCall, IsLegalPart, IsLegalTree}
+use Rattle.jc_parser.specs.Scenarios.{IsTreeWithin}
+use Rattle.jc_parser.specs.LegalSymbols.{IsLegalCall, IsLegalPart, IsLegalTree}
 use Rattle.jc_parser.specs.LegalSymbolLaws.{LegalExpressions, LegalScripts, LegalEvents, LegalScriptsAt, LegalEventsAt, LegalScenarios}
 use Rattle.jc_parser.proofs.GrammarStatesLemmas.{keeps_names, names_nothing, script_keeps, verdict_at_keeps}
 use Rattle.jc_parser.proofs.LegalTokensLemmas.{LegalStrings, symbols_legal}

@@ -1,5 +1,5 @@
 -- About `LegalSymbolLaws`: what a tree says that has legal symbols, and in which no guard refuses, is legal.
-use Rattle.std.proofs.Common.{◌≡◌, ℕ, zero, suc, ◌+◌, ◌≤◌, ◌<◌, inl, inr, Bool, true, false, List, [], ◌∷◌, ◌++◌, None, refl, sym, ap, subst, ◌∙◌, length, arith}
+use Rattle.std.proofs.Common.{◌≡◌, ℕ, zero, suc, ◌+◌, ◌≤◌, ◌<◌, inl, inr, true, false, List, [], ◌∷◌, ◌++◌, None, refl, ap, subst, length, arith}
 use Rattle.std.specs.Prelude.{codes, nat_lt, not}
 use Rattle.std.specs.List.{All, AllByRecursion}
 use Rattle.std.specs.Str.{bytes_eq}
@@ -10,19 +10,19 @@ use Rattle.jc_rules.specs.declared.limits.TheConstants.{MAX_SELECTORS, MAX_COMMA
 use Rattle.jc_rules.specs.declared.version.Version.{Version}
 use Rattle.jc_rules.specs.declared.version.Version.TheVariants.{One, Two}
 use Rattle.jc_rules.specs.Syntax.{Expr, Variable, Cmd}
-use Rattle.jc_syntax.specs.declared.token.TokenKind.TheVariants.{Name, Number, Str, Comma, Semi}
+use Rattle.jc_syntax.specs.declared.token.TokenKind.TheVariants.{Name, Number, Str, Semi}
 use Rattle.jc_syntax.specs.declared.tree.Named.{Named}
 use Rattle.jc_syntax.specs.declared.tree.NamedEvent.{NamedEvent}
 use Rattle.jc_grammar.specs.Symbols.{Symbol, word, number, string, Lexeme, symbols}
-use Rattle.jc_grammar.specs.SymbolTests.{has_kind, value_of_symbol, numeral_value, is_reserved, is_word}
+use Rattle.jc_grammar.specs.SymbolTests.{has_kind, value_of_symbol, numeral_value, is_reserved}
 use Rattle.jc_grammar.specs.Classes.{is_of, other_word, is_in}
-use Rattle.jc_grammar.specs.Guards.{GuardState, Verdict, refuses, passes, Guard, verdict_of, fault_at, no_selector, no_command, free_binding, free_root, small_index}
-use Rattle.jc_grammar.specs.Grammar.{Grammar, symbol, nothing, ◌then◌, ◌or◌, guarded, listed, chained, repeated, ParseTree, leaves, FitsClasses, NoticedFault, first_of, verdict_at, state_after, refusal_by, first_refusal}
-use Rattle.jc_grammar.specs.ScenarioGrammar.{token, keyword, in_parens, index, selector, root_but, selector_dot, expression, literal, assignment, ending, change, binding, command, script, identifier, common_action, action, event}
+use Rattle.jc_grammar.specs.Guards.{GuardState, Verdict, refuses, passes, Guard, verdict_of, no_selector, no_command, free_binding, free_root, small_index}
+use Rattle.jc_grammar.specs.Grammar.{Grammar, nothing, ◌then◌, ◌or◌, guarded, listed, chained, repeated, ParseTree, leaves, FitsClasses, verdict_at, state_after, refusal_by, first_refusal}
+use Rattle.jc_grammar.specs.ScenarioGrammar.{token, in_parens, index, selector, root_but, selector_dot, expression, literal, assignment, ending, change, binding, command, script, identifier, common_action, action, event}
 use Rattle.jc_grammar.specs.Limits.{items_in}
 use Rattle.jc_grammar.proofs.LimitsLemmas.{both_none, is_refused, limits_kept}
 use Rattle.jc_parser.specs.NamedTrees.{call_of}
-use Rattle.jc_parser.specs.GrammarTrees.{value_of, number_of, named, inside, items_of, selected, root_of_tree, path_of_tree, expression_of_tree, value_of_tree, ending_of_tree, assignment_of_tree, change_of_tree, binding_of_tree, update_of_tree, command_of_tree, script_of_tree, counter_of, author_of, taken, take_of_tree, common_of_tree, action_of_tree, event_of_tree}
+use Rattle.jc_parser.specs.GrammarTrees.{value_of, number_of, named, inside, items_of, selected, root_of_tree, path_of_tree, expression_of_tree, value_of_tree, ending_of_tree, assignment_of_tree, change_of_tree, binding_of_tree, update_of_tree, command_of_tree, script_of_tree, counter_of, author_of, taken, common_of_tree, action_of_tree, event_of_tree}
 use Rattle.jc_parser.specs.Expressions.{selector_count, HasLegalParts, IsWellFormedExpression}
 use Rattle.jc_parser.specs.Scripts.{IsCommandWellFormed, IsScriptWellFormed}
 use Rattle.jc_parser.specs.Events.{IsCallWellFormed, HasCall}

@@ -1,5 +1,5 @@
 -- Tokens that are a prefix of others, and what such a prefix is, for scripts and events among tokens.
-use Rattle.std.proofs.Common.{◌≡◌, ◌≢◌, ℕ, ◌+◌, ◌-◌, ◌≤◌, ◌⊎◌, inl, inr, true, List, [], ◌++◌, length, take, drop, None, Result, Ok, Err, refl, sym, ap, subst, ◌∙◌, arith}
+use Rattle.std.proofs.Common.{◌≡◌, ◌≢◌, ℕ, ◌+◌, ◌-◌, ◌≤◌, ◌⊎◌, inl, inr, true, List, [], ◌++◌, length, take, drop, Result, Ok, Err, refl, sym, ap, subst, ◌∙◌, arith}
 use Rattle.std.specs.Prelude.{slice_range}
 use Rattle.std.proofs.Math.Seq.{take-append_seam, take-length}
 use Rattle.std.proofs.lemmas.List.{length-append, length-drop, length-map, map-append, take-map}
@@ -18,7 +18,7 @@ use Rattle.jc_parser.specs.declared.fault.ScenarioFault.TheVariants.{Memory}
 use Rattle.jc_parser.specs.Faults.{IsOfSentence}
 use Rattle.jc_parser.specs.ReaderState.{Reading, ReadOutcome, reading_of}
 use Rattle.jc_parser.specs.Sentences.{IsSentence, IsPrefixFault, IsAhead}
-use Rattle.jc_parser.proofs.GrammarAgreesLemmas.{reading, fault_as, given, Agrees}
+use Rattle.jc_parser.proofs.GrammarAgreesLemmas.{fault_as, given, Agrees}
 use Rattle.jc_parser.proofs.GuardsLemmas.{no_memory_ahead, misfit_told, IsSentences, sentence_kind}
 use Rattle.jc_parser.proofs.SentencesLemmas.{IsExactly, exactly_so, given_whole, IsIn, decides_exactly, one_of, none_beside, one_or_fault, one_fault_of, kind_is}
 

@@ -11,7 +11,7 @@ use Rattle.jc_grammar.specs.Guards.{TextFault, Misfit, nothing_seen}
 use Rattle.jc_grammar.specs.Grammar.{Grammar, ParseTree, NoticedFault}
 use Rattle.jc_grammar.specs.LookAhead.{is_decided}
 use Rattle.jc_grammar.specs.TreeReader.{TreeOutcome, ◌⟫◌, whole_of, read_tree, read_whole}
-use Rattle.jc_grammar.specs.Faults.{Language, IsTreeText, IsFaultIn}
+use Rattle.jc_grammar.specs.Faults.{Language}
 use Rattle.jc_grammar.specs.ScenarioGrammar.{misfit_at}
 use Rattle.jc_grammar.proofs.FaultsDecideLemmas.{TextFunction, Decides}
 use Rattle.jc_grammar.proofs.TreeReaderLemmas.{decides_all}

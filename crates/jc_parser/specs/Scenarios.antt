@@ -1,8 +1,7 @@
 -- Scenarios: the one that tokens are, the fault of other tokens, and their limits. Whether the names in events are
 -- replicas' is not asked.
-use Rattle.std.specs.Prelude.{◌≡◌, ◌≢◌, ℕ, ◌≤◌, List, [], length, map, false, All}
+use Rattle.std.specs.Prelude.{◌≡◌, ◌≢◌, ◌≤◌, List, [], length, map, false, All}
 use Rattle.std.specs.List.{AllPairs}
-use Rattle.jc_rules.specs.declared.version.Version.{Version}
 use Rattle.jc_rules.specs.declared.version.Version.TheVariants.{One}
 use Rattle.jc_rules.specs.declared.limits.TheConstants.{MAX_EVENTS, MAX_REPLICAS}
 use Rattle.jc_grammar.specs.SymbolTests.{is_reserved}

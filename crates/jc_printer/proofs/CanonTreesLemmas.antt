@@ -1,7 +1,6 @@
 -- About `Canon`: the canonical text of a tree is written with symbols of the tree.
-use Rattle.std.proofs.Common.{◌≡◌, ℕ, ◌<◌, ◌≤◌, ◌^◌, List, [], ◌∷◌, ◌++◌, length, slice_index, true, false, inl, inr, refl, sym, ap, subst, arith, append_assoc, append-nil, decimal}
+use Rattle.std.proofs.Common.{◌≡◌, ℕ, ◌<◌, ◌≤◌, ◌^◌, List, [], ◌∷◌, ◌++◌, length, slice_index, true, refl, sym, ap, subst, arith, append_assoc, append-nil, decimal}
 use Rattle.std.specs.Prelude.{codes, flat_map}
-use Rattle.std.specs.Str.{bytes_eq}
 use Rattle.std.specs.List.{list_all, All}
 use Rattle.std.proofs.lemmas.Bool.{or_parts}
 use Rattle.std.proofs.lemmas.List.Elements.{All-tail}

@@ -1,7 +1,6 @@
 -- About `GrammarTrees` of `jc_parser`: lexemes with the symbols of an event are a tree that says it by names.
-use Rattle.std.proofs.Common.{◌≡◌, ℕ, ◌<◌, inl, inr, true, List, [], ◌∷◌, decimal, refl, sym, ap, ◌∙◌}
+use Rattle.std.proofs.Common.{◌≡◌, ℕ, ◌<◌, inl, inr, List, [], ◌∷◌, decimal, refl, sym, ap, ◌∙◌}
 use Rattle.std.specs.Prelude.{codes}
-use Rattle.std.specs.Str.{bytes_eq}
 use Rattle.jc_rules.specs.declared.operation.Event.{Event}
 use Rattle.jc_rules.specs.declared.operation.Event.TheVariants.{Exec, Send, Recv, Take, Apply, Done}
 use Rattle.jc_rules.specs.declared.version.Version.{Version}
@@ -9,17 +8,16 @@ use Rattle.jc_rules.specs.declared.version.Version.TheVariants.{One, Two}
 use Rattle.jc_rules.specs.ReplicaNames.{name_at}
 use Rattle.jc_rules.specs.Version.{Allows}
 use Rattle.jc_syntax.specs.declared.token.TokenKind.TheVariants.{Name, Dot, ParenL, ParenR, Comma}
-use Rattle.jc_syntax.specs.declared.tree.Named.{Named}
 use Rattle.jc_grammar.specs.Symbols.{Symbol, word, number, dot, open_paren, close_paren, comma, Lexeme, symbols}
-use Rattle.jc_grammar.specs.SymbolTests.{value_of_symbol, numeral_value}
+use Rattle.jc_grammar.specs.SymbolTests.{value_of_symbol}
 use Rattle.jc_grammar.specs.Classes.{any}
-use Rattle.jc_grammar.specs.Grammar.{◌then◌, ParseTree, leaves}
-use Rattle.jc_grammar.specs.ScenarioGrammar.{token, keyword, in_parens, identifier, common_action, action, event}
+use Rattle.jc_grammar.specs.Grammar.{ParseTree, leaves}
+use Rattle.jc_grammar.specs.ScenarioGrammar.{token, identifier, common_action, action, event}
 use Rattle.jc_parser.specs.NamedTrees.{Call, executes, sends, receives, takes, applies, ends, call_of}
-use Rattle.jc_parser.specs.GrammarTrees.{value_of, number_of, named, counter_of, author_of, common_of_tree, action_of_tree, event_of_tree}
+use Rattle.jc_parser.specs.GrammarTrees.{value_of, named, counter_of, author_of, common_of_tree, action_of_tree, event_of_tree}
 use Rattle.jc_parser.specs.LegalSymbols.{call_by, IsCounterBelow}
 use Rattle.jc_printer.proofs.CanonSymbolsLemmas.{identifier_symbols, event_symbols}
-use Rattle.jc_printer.proofs.WrittenTreesLemmas.{Leads, leads, none_left, CleanTree, IsClean, clean_mark, clean_word, clean_then, clean_left, clean_right, clean_index, index_is}
+use Rattle.jc_printer.proofs.WrittenTreesLemmas.{leads, none_left, CleanTree, IsClean, clean_mark, clean_word, clean_then, clean_left, clean_right, clean_index, index_is}
 
 -- what an event's tree says by names
 abbrev pub call_in : (v : Version) → ParseTree (event v) → Call

@@ -1,6 +1,6 @@
 -- About `GrammarTrees` of `jc_parser`: lexemes with the symbols of a tree in memory are a tree of the grammar that says it.
-use Rattle.std.proofs.Common.{◌≡◌, ℕ, zero, suc, ◌+◌, ◌-◌, ◌≤◌, ◌<◌, ◌^◌, inl, inr, Bool, true, false, List, [], ◌∷◌, ◌++◌, map, length, None, decimal, refl, sym, ap, subst, ◌∙◌, append_assoc, append-nil, arith}
-use Rattle.std.specs.Prelude.{codes, not, nat_lt}
+use Rattle.std.proofs.Common.{◌≡◌, ℕ, zero, suc, ◌+◌, ◌-◌, ◌≤◌, ◌<◌, inl, inr, true, false, List, [], ◌∷◌, ◌++◌, length, None, decimal, refl, sym, ap, subst, ◌∙◌, append_assoc, append-nil, arith}
+use Rattle.std.specs.Prelude.{codes, not}
 use Rattle.std.specs.Str.{bytes_eq}
 use Rattle.std.specs.List.{All}
 use Rattle.std.proofs.lemmas.Bool.{lt-ltb}
@@ -11,17 +11,17 @@ use Rattle.jc_rules.specs.declared.value.Value.TheVariants as values
 use Rattle.jc_rules.specs.Syntax.{Expr, TheDoc, Variable, GetKey, Index, KeysOf, ValuesOf, Cmd, LetIn, SetTo, InsertAfter, DeleteAt, Yield}
 use Rattle.jc_syntax.specs.declared.token.TokenKind.TheVariants.{Name, Number, Str, ParenL, ParenR, BraceL, BraceR, BracketL, BracketR, Semi, Assign, Equals}
 use Rattle.jc_grammar.specs.Symbols.{Symbol, word, number, string, dot, open_paren, close_paren, open_brace, close_brace, open_bracket, close_bracket, semicolon, assign, equals, Lexeme, symbols}
-use Rattle.jc_grammar.specs.SymbolTests.{value_of_symbol, is_numeral, numeral_value, is_reserved}
+use Rattle.jc_grammar.specs.SymbolTests.{value_of_symbol, numeral_value, is_reserved}
 use Rattle.jc_grammar.specs.Classes.{Class, any, is_of, is_in}
-use Rattle.jc_grammar.specs.Guards.{GuardState, Guard, passes, verdict_of, small_index, free_binding, free_root, dot_seen, no_selector, no_command, nothing_seen}
+use Rattle.jc_grammar.specs.Guards.{GuardState, Guard, passes, verdict_of, small_index, free_binding, dot_seen, no_selector, no_command, nothing_seen}
 use Rattle.jc_grammar.specs.Grammar.{Grammar, symbol, nothing, ◌then◌, ◌or◌, guarded, listed, chained, repeated, ParseTree, leaves, FitsClasses, state_after, first_refusal}
-use Rattle.jc_grammar.specs.ScenarioGrammar.{token, keyword, in_parens, index, selector, root_but, selector_dot, expression, literal, assignment, ending, command, script}
-use Rattle.jc_parser.specs.GrammarTrees.{value_of, number_of, inside, items_of, selected, root_of_tree, path_of_tree, expression_of_tree, value_of_tree, ending_of_tree, assignment_of_tree, change_of_tree, command_of_tree, script_of_tree}
+use Rattle.jc_grammar.specs.ScenarioGrammar.{token, keyword, index, selector, root_but, selector_dot, expression, literal, assignment, ending, command, script}
+use Rattle.jc_parser.specs.GrammarTrees.{value_of, number_of, items_of, selected, root_of_tree, path_of_tree, expression_of_tree, value_of_tree, ending_of_tree, assignment_of_tree, change_of_tree, command_of_tree, script_of_tree}
 use Rattle.jc_parser.specs.Sentences.{IsSentence}
 use Rattle.jc_parser.specs.Expressions.{selector_count, HasLegalParts, IsWellFormedExpression}
 use Rattle.jc_parser.specs.Scripts.{IsCommandWellFormed, IsScriptWellFormed}
 use Rattle.jc_printer.proofs.NumeralsLemmas.{numeral_of, value_of_numeral}
-use Rattle.jc_printer.proofs.CanonSymbolsLemmas.{get_symbols, index_symbols, expr_symbols, value_symbols, cmd_symbols, joined, IsFree, free}
+use Rattle.jc_printer.proofs.CanonSymbolsLemmas.{get_symbols, index_symbols, expr_symbols, value_symbols, cmd_symbols, joined, free}
 
 -- ---- lexemes of symbols
 

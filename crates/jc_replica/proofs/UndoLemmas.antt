@@ -1,11 +1,8 @@
 -- Lemmas about Undo: the last step is taken back.
-use Rattle.std.proofs.Common.{◌≡◌, ℕ, ◌+◌, ◌-◌, ◌<◌, List, [], ◌∷◌, ◌++◌, length, take, ap, subst, arith, length-take-le}
-use Rattle.std.proofs.lemmas.List.{length-map}
+use Rattle.std.proofs.Common.{◌≡◌, ◌+◌, ◌-◌, List, [], ◌∷◌, ◌++◌, length, take, ap, subst, arith, length-take-le}
 use Rattle.jc_rules.specs.Syntax.{Cmd}
 use Rattle.jc_rules.specs.History.{timeline}
 use Rattle.jc_tree.specs.Tree.{Tree}
-use Rattle.jc_cursor.specs.declared.bound.Bound.{Bound as BoundInMemory}
-use Rattle.jc_cursor.specs.Bounds.{bound_of, vars_of}
 use Rattle.jc_replica.specs.declared.record.Change.{Change}
 use Rattle.jc_replica.specs.declared.record.Change.TheVariants as C
 use Rattle.jc_replica.specs.declared.record.Record.{Record}
@@ -15,7 +12,7 @@ use Rattle.jc_replica.proofs.UndoStepsLemmas.{Unstepped, unstepped, can_back}
 
 -- what can be taken back leaves the bounds
 back_in_bounds : (script : List Cmd) (c : Change) (h : Held) → IsInBounds script h → CanBack c h → IsInBounds script (undone_once c h)
-back_in_bounds script (C.Bound place before) h b can = record { done = omega (arith, b.done); sent = b.sent }
+back_in_bounds script (C.Bound name before) h b can = record { done = omega (arith, b.done); sent = b.sent }
 back_in_bounds script (C.Made i before) h b can =
     record {
       done = omega (arith, b.done);
@@ -33,11 +30,6 @@ unstep {script} {t} {ss} {h} k u rs r h0 se ue be =
 -- what is asked of the last step, as it is
 pub can_back_as : {script : List Cmd} {t : Tree} {ss : List Record} {h : Held} → IsReplica script t ss h → (rs : List Record) (r : Record) → ss ≡ rs ++ r ∷ [] → (c : Change) → r.change ≡ c → CanBack c h
 can_back_as {script} {t} {ss} {h} k rs r se c ce = subst (λ (x : Change). CanBack x h) ce (can_back k rs r se)
-
-pub in_memory : (vs : List (List ℕ × BoundInMemory)) (n : ℕ) → n < length (vars_of vs) → n < length vs
-in_memory vs n l =
-    let size : length (vars_of vs) ≡ length vs = length-map vs (λ (v : List ℕ × BoundInMemory). (v.0, bound_of v.1)) in
-    omega (arith, l, size)
 
 -- without a step
 pub no_earlier : (script : List Cmd) (t : Tree) (ss : List Record) (h : Held) → ss ≡ [] → states script (timeline t) ss h ≡ []

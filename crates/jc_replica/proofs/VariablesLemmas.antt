@@ -32,8 +32,8 @@ use Rattle.jc_rules.proofs.HistoryLemmas.{still}
 abbrev pub bound_held : Held → List (List ℕ × Bound) → Held
 bound_held h vars = held_of (h.done + 1) h.acted vars h.ops h.queue h.sent h.recv
 
-module _ (script : List Cmd) (h : Held) (vars : List (List ℕ × Bound)) (x : List ℕ) (b : Bound) (at : ℕ) (before : Option (Box BoundInMemory)) (is : IsBound x b at (was_bound before) h.vars vars) where
-  pub bound_back : undone_once (C.Bound at before) (bound_held h vars) ≡ h
+module _ (script : List Cmd) (h : Held) (vars : List (List ℕ × Bound)) (x : List ℕ) (b : Bound) (before : Option (Box BoundInMemory)) (is : IsBound x b (was_bound before) h.vars vars) where
+  pub bound_back : undone_once (C.Bound x before) (bound_held h vars) ≡ h
   bound_back =
       let d : h.done + 1 - 1 ≡ h.done = omega arith in
       λ i. record { done = d i; acted = h.acted; vars = is.back i; ops = h.ops; queue = h.queue; sent = h.sent; recv = h.recv }
@@ -62,22 +62,22 @@ module _ (script : List Cmd) (h : Held) (vars : List (List ℕ × Bound)) (x : L
       leads_bound set p A K stands os x b (state_of script (bound_held h vars) c) u (at_depth 0 u) m same refl
 
 -- the step of a command that binds a variable
-module _ {script : List Cmd} {t : Tree} {rs : List Record} {h : Held} (k : IsReplica script t rs h) (number : ℕ) (x : List ℕ) (b : Bound) (t0 u : Rows) (none : t0 ≡ no_rows) (m0 : Binds (state_of script h t.now) x b t0 u) (vars : List (List ℕ × Bound)) (at : ℕ) (before : Option (Box BoundInMemory)) (is : IsBound x b at (was_bound before) h.vars vars) (ss : List Record) (h2 : Held) (mark : Mark) (he : h2 ≡ bound_held h vars) (se : ss ≡ rs ++ (record { mark = mark; change = C.Bound at before }) ∷ []) (me : mark.changes ≡ length t.earlier) where
+module _ {script : List Cmd} {t : Tree} {rs : List Record} {h : Held} (k : IsReplica script t rs h) (number : ℕ) (x : List ℕ) (b : Bound) (t0 u : Rows) (none : t0 ≡ no_rows) (m0 : Binds (state_of script h t.now) x b t0 u) (vars : List (List ℕ × Bound)) (before : Option (Box BoundInMemory)) (is : IsBound x b (was_bound before) h.vars vars) (ss : List Record) (h2 : Held) (mark : Mark) (he : h2 ≡ bound_held h vars) (se : ss ≡ rs ++ (record { mark = mark; change = C.Bound x before }) ∷ []) (me : mark.changes ≡ length t.earlier) where
   m : Binds (state_of script h t.now) x b no_rows u
   m = subst (λ (r : Rows). Binds (state_of script h t.now) x b r u) none m0
 
   bound_step : Stepped script t t rs ss h h2
   bound_step =
-      let r : Record = record { mark = mark; change = C.Bound at before } in
+      let r : Record = record { mark = mark; change = C.Bound x before } in
       let bounds : IsInBounds script (bound_held h vars) = record { done = one_more_fits h.done script _ m.next.rest m.next.next; sent = k.bounds.sent } in
-      subst (λ (y : Held). Stepped script t t rs ss h y) (sym he) (stepped k t ss r (bound_held h vars) (still t) se me (bound_back script h vars x b at before is) is.there (bound_ready script h vars x b at before is t.now (ready_now k) _ m.next.rest m.next.next) bounds)
+      subst (λ (y : Held). Stepped script t t rs ss h y) (sym he) (stepped k t ss r (bound_held h vars) (still t) se me (bound_back script h vars x b before is) tt (bound_ready script h vars x b before is t.now (ready_now k) _ m.next.rest m.next.next) bounds)
 
   pub bound_kept_replica : IsReplica script t ss h2
   bound_kept_replica = bound_step.kept
 
   pub bound_occurs : (p : ReplicaHistory) → replica_history_of number script t rs h ≡ p → (w : Rows) → w ≡ at_depth 0 u → Occurs (E.Exec p.number) [] p (replica_history_of number script t ss h2) w
   bound_occurs p pe w we =
-      let leading = binds_event script h vars x b at before is number t.now u m in
+      let leading = binds_event script h vars x b before is number t.now u m in
       occurs k number p pe E.Exec [] t ss h2 w
       (subst (λ (y : Held). Leading number (E.Exec number) [] (state_of script h t.now) (state_of script y t.now) w) (sym he)
       (subst (λ (y : Rows). Leading number (E.Exec number) [] (state_of script h t.now) (state_of script (bound_held h vars) t.now) y) (sym we) leading))

@@ -25,7 +25,7 @@ pub record IsGreatest (i : Id) (before : ℕ) (ops : List Id) : Type 0 where
 
 -- what is held after a change allows it to be taken back
 abbrev pub CanBack : Change → Held → Type 0
-CanBack (C.Bound place before) h = place < length h.vars
+CanBack (C.Bound name before) h = Unit {0}
 CanBack (C.Made i before) h = IsGreatest i before h.ops × (h.sent < length h.queue)
 CanBack (C.Sent sent acted) h = sent ≤ length h.queue
 CanBack (C.Received came acted) h = Unit {0}

@@ -1,9 +1,10 @@
 -- What undo records are for: what a replica held before its steps, computed from them.
-use Rattle.std.specs.Prelude.{ℕ, zero, suc, ◌-◌, List, [], ◌∷◌, Bool, true, not, length, take, drop, filter, slice_get, Option, Some, None, box_value}
+use Rattle.std.specs.Prelude.{ℕ, ◌-◌, List, [], ◌∷◌, Bool, true, not, length, take, drop, filter, slice_get, Option, box_value}
 use Rattle.std.specs.Global.{Box}
 use Rattle.std.specs.Option.{option_map}
 use Rattle.jc_rules.specs.declared.id.Id.{Id}
 use Rattle.jc_rules.specs.declared.operation.Op.{Op}
+use Rattle.jc_rules.specs.Order.{name_cmp}
 use Rattle.jc_rules.specs.Context.{Context}
 use Rattle.jc_rules.specs.VersionVectors.{truncated}
 use Rattle.jc_rules.specs.Ids.{has_id}
@@ -12,6 +13,7 @@ use Rattle.jc_rules.specs.State.{State, Bound}
 use Rattle.jc_rules.specs.Syntax.{Cmd}
 use Rattle.jc_rules.specs.History.{timeline}
 use Rattle.jc_tree.specs.Tree.{Tree}
+use Rattle.jc_tree.specs.Undo.{restored}
 use Rattle.jc_cursor.specs.declared.bound.Bound.{Bound as BoundInMemory}
 use Rattle.jc_cursor.specs.Bounds.{bound_of}
 use Rattle.jc_replica.specs.declared.record.Change.{Change}
@@ -51,12 +53,9 @@ state_of script h c = record {
 abbrev pub was_bound : Option (Box BoundInMemory) → Option Bound
 was_bound before = option_map (λ b. bound_of (box_value b)) before
 
--- with what the variable at the place was bound to, or without it where it wasn't bound
-abbrev pub unbound : ℕ → Option Bound → List (List ℕ × Bound) → List (List ℕ × Bound)
-unbound n before [] = []
-unbound zero None (v ∷ vs) = vs
-unbound zero (Some b) (v ∷ vs) = (v.0, b) ∷ vs
-unbound (suc n) before (v ∷ vs) = v ∷ unbound n before vs
+-- with what the variable was bound to, or without it where it wasn't bound
+abbrev pub unbound : List ℕ → Option Bound → List (List ℕ × Bound) → List (List ℕ × Bound)
+unbound x before vars = restored name_cmp x before vars
 
 -- the list without the operations that have these identifiers
 abbrev pub without_ops : List Id → List Op → List Op
@@ -64,8 +63,8 @@ without_ops ids os = filter (λ o. not (has_id o.id ids)) os
 
 -- what was held before the change
 abbrev pub undone_once : Change → Held → Held
-undone_once (C.Bound place before) h =
-    record h { done = h.done - 1; vars = unbound place (was_bound before) h.vars }
+undone_once (C.Bound name before) h =
+    record h { done = h.done - 1; vars = unbound name (was_bound before) h.vars }
 undone_once (C.Made i before) h =
     record h { done = h.done - 1; ops = truncated i.replica before h.ops; queue = take (length h.queue - 1) h.queue }
 undone_once (C.Sent sent acted) h = record h { acted = acted; sent = sent }

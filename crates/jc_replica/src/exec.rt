@@ -13,7 +13,7 @@ use crate::record::{Change, Record};
 use crate::replica::Replica;
 use crate::vars::bind_var;
 use crate::yielding::is_yield;
-use jc_cursor::{Bound, eval_sorted};
+use jc_cursor::{Bound, eval_in_map};
 use jc_rules::{Cursor, Id, Mutation, Op, Rule, Text, Trace};
 use jc_syntax::{Cmd, Expr};
 use jc_tree::TreeStore;
@@ -122,7 +122,7 @@ impl<S: TreeStore> Replica<S> {
         trace.open(Rule::Exec)?;
         trace.open(Rule::Let)?;
         let copy = name.copy()?;
-        let bound = eval_sorted(self.alloc, &self.store, self.vars.as_slice(), expr, trace)?;
+        let bound = eval_in_map(self.alloc, &self.store, &self.vars, expr, trace)?;
         Ok((copy, bound))
     }
 
@@ -135,10 +135,10 @@ impl<S: TreeStore> Replica<S> {
         let (name, bound) = self.bound_next(&mut trace)?;
         self.steps.reserve(1)?;
         let mark = self.store.mark();
-        let (place, before) = bind_var(self.alloc, &mut self.vars, name, bound)?;
+        let before = bind_var(self.alloc, &mut self.vars, &name, bound)?;
         trace.close(0);
         self.done += 1;
-        let change = Change::Bound { place, before };
+        let change = Change::Bound { name, before };
         self.steps.push(Record { mark, change }).unwrap();
         Ok(trace)
     }
@@ -152,13 +152,8 @@ impl<S: TreeStore> Replica<S> {
         let command = &self.script[self.done];
         trace.open(Rule::Exec)?;
         trace.open(rule_of(command))?;
-        let bound = eval_sorted(
-            self.alloc,
-            &self.store,
-            self.vars.as_slice(),
-            place_of(command),
-            trace,
-        )?;
+        let place = place_of(command);
+        let bound = eval_in_map(self.alloc, &self.store, &self.vars, place, trace)?;
         let Bound::Cursor(cursor) = bound else {
             return Err(ReplicaFault::NotACursor);
         };

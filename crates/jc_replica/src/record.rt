@@ -1,16 +1,16 @@
 //! The undo record of a step, which a replica keeps for each of its steps.
 
 use jc_cursor::Bound;
-use jc_rules::Id;
+use jc_rules::{Id, Text};
 use jc_tree::Mark;
 
 /// The undo record of what a step changed outside the store.
 #[derive(Drop)]
 pub enum Change {
-    /// A command bound the variable at this place. It was bound to `before`, or is new. Few steps bind
+    /// A command bound the variable of this name. It was bound to `before`, or is new. Few steps bind
     /// a variable that was bound, so that is in a box: each record would have room for it else.
     Bound {
-        place: usize,
+        name: Text,
         before: Option<Box<Bound>>,
     },
     /// A command made the last operation of the queue, which has this identifier. The greatest

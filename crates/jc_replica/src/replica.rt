@@ -16,6 +16,7 @@ use jc_rules::{IdSet, Op, Text};
 use jc_syntax::Cmd;
 use jc_tree::TreeStore;
 use std::alloc::Global;
+use std::collections::BTreeMap;
 use std::marker::Model;
 
 /// A replica with its script, its document in a store, and an undo record of each of its steps. It is seen
@@ -28,7 +29,7 @@ pub struct Replica<S: TreeStore> {
     pub(crate) done: usize,
     /// Whether an event of the yield was made.
     pub(crate) acted: bool,
-    pub(crate) vars: Vec<(Text, Bound)>,
+    pub(crate) vars: BTreeMap<Text, Bound>,
     pub(crate) store: S,
     /// The identifiers applied.
     pub(crate) ops: IdSet,
@@ -54,10 +55,10 @@ impl<S: TreeStore> Model for Replica<S> {
     ghost coded = { replica_history_code };
 
     ghost view = { λ a. replica_history_of a.number (map cmd_of a.script.items) (S.tree a.store) a.steps.items
-        (held_of a.done a.acted (vars_of a.vars.items) a.ops a.queue.items a.sent a.recv) };
+        (held_of a.done a.acted (vars_of a.vars.entries) a.ops a.queue.items a.sent a.recv) };
 
     ghost invariant = { λ a. IsReplica (map cmd_of a.script.items) (S.tree a.store) a.steps.items
-        (held_of a.done a.acted (vars_of a.vars.items) a.ops a.queue.items a.sent a.recv) };
+        (held_of a.done a.acted (vars_of a.vars.entries) a.ops a.queue.items a.sent a.recv) };
 }
 
 impl<S: TreeStore> Replica<S> {
@@ -72,7 +73,7 @@ impl<S: TreeStore> Replica<S> {
             script,
             done: 0,
             acted: false,
-            vars: Vec::new(alloc),
+            vars: BTreeMap::new(alloc),
             store,
             ops: IdSet::new(alloc),
             queue: Vec::new(alloc),
@@ -105,10 +106,10 @@ impl<S: TreeStore> Replica<S> {
     }
 
     /// The variables and what they are bound to, by name.
-    pub fn vars(&self) -> &[(Text, Bound)]
-        ensures { vars_of result.now ≡ self.now.history.now.vars }
+    pub fn vars(&self) -> &BTreeMap<Text, Bound>
+        ensures { vars_of result.now.entries ≡ self.now.history.now.vars }
     {
-        self.vars.as_slice()
+        &self.vars
     }
 
     /// The identifiers of the operations applied.

@@ -30,9 +30,9 @@ impl<S: TreeStore> Replica<S> {
         self.store.undo_to(mark);
         let ended = self.done.saturating_sub(1);
         match change {
-            Change::Bound { place, before } => {
+            Change::Bound { name, before } => {
                 self.done = ended;
-                unbind_var(&mut self.vars, place, before);
+                unbind_var(&mut self.vars, &name, before);
             }
             Change::Made { id, before } => {
                 self.done = ended;

@@ -13,21 +13,21 @@ use Rattle.jc_rules.specs.Version.{Allows}
 use Rattle.jc_syntax.specs.declared.token.TokenKind.TheVariants.{Name, BraceL, BraceR, Semi}
 use Rattle.jc_grammar.specs.Symbols.{Symbol, word, number, open_brace, close_brace, semicolon, Lexeme, symbols}
 use Rattle.jc_grammar.specs.SymbolTests.{value_of_symbol, is_reserved}
-use Rattle.jc_grammar.specs.Classes.{any, the_number, is_in}
+use Rattle.jc_grammar.specs.Classes.{any, is_in}
 use Rattle.jc_grammar.specs.Guards.{GuardState, Guard, passes, verdict_of, new_replica, no_command, no_event, nothing_seen}
-use Rattle.jc_grammar.specs.Grammar.{Grammar, symbol, nothing, ◌then◌, ◌or◌, guarded, listed, repeated, ParseTree, leaves, FitsClasses, state_after, first_refusal}
+use Rattle.jc_grammar.specs.Grammar.{Grammar, ◌then◌, guarded, listed, repeated, ParseTree, leaves, FitsClasses, state_after, first_refusal}
 use Rattle.jc_grammar.specs.Faults.{IsTreeText}
-use Rattle.jc_grammar.specs.ScenarioGrammar.{token, keyword, command, script, closed_script, event, events, block, blocks, replica, body, scenario}
-use Rattle.jc_parser.specs.NamedTrees.{Call, call_of, Part, NamedTree, ScenarioTree, tree_of_named}
-use Rattle.jc_parser.specs.GrammarTrees.{value_of, items_of, command_of_tree, script_of_tree, closed_script_of_tree, event_of_tree, events_of_tree, block_of_tree, any_block_of_tree, blocks_of_tree, replica_of_tree, tail_of_tree, body_of_tree, scenario_of_tree}
+use Rattle.jc_grammar.specs.ScenarioGrammar.{token, keyword, command, closed_script, event, block, blocks, replica, body, scenario}
+use Rattle.jc_parser.specs.NamedTrees.{Call, call_of, Part, ScenarioTree, tree_of_named}
+use Rattle.jc_parser.specs.GrammarTrees.{value_of, items_of, command_of_tree, closed_script_of_tree, event_of_tree, block_of_tree, blocks_of_tree, replica_of_tree, tail_of_tree, body_of_tree, scenario_of_tree}
 use Rattle.jc_parser.specs.Scripts.{IsCommandWellFormed, IsScriptWellFormed}
 use Rattle.jc_parser.specs.LegalSymbols.{call_by, IsCounterBelow}
 use Rattle.jc_parser.proofs.GrammarStatesLemmas.{script_keeps}
 use Rattle.jc_parser.proofs.LegalScenariosLemmas.{tree_keeps}
 use Rattle.jc_printer.proofs.CanonSymbolsLemmas.{cmd_symbols, event_symbols}
-use Rattle.jc_printer.proofs.WrittenTreesLemmas.{Parted, parted, Leads, leads, none_left, CleanTree, IsClean, clean_mark, clean_word, clean_none, clean_then, clean_left, clean_right, EachClean, no_items, next_item, command_clean}
+use Rattle.jc_printer.proofs.WrittenTreesLemmas.{parted, leads, none_left, CleanTree, IsClean, clean_mark, clean_word, clean_then, clean_left, no_items, next_item, command_clean}
 use Rattle.jc_printer.proofs.WrittenEventsLemmas.{call_in, event_clean}
-use Rattle.jc_scenario.proofs.ScenarioSymbolsLemmas.{ended, named_symbols, part_symbols, parts_symbols, block_symbols, given_symbols, schedule_symbols, version_text, header}
+use Rattle.jc_scenario.proofs.ScenarioSymbolsLemmas.{ended, named_symbols, parts_symbols, block_symbols, given_symbols, schedule_symbols, header}
 
 -- ---- lists
 

@@ -22,7 +22,7 @@ loop-name-preserved g c =
 pub returns : goal.returns
 returns g c =
     let names = c.args.names.now in
-    let vars = c.args.vars.now in
+    let vars = c.args.vars.now.entries in
     let f = bound_shown names in
     let entries = c.in_ok-found.found.entries in
     let shown : shown_as f entries ≡ put_all (map (var_member names) (vars_of vars)) no_members =

@@ -49,11 +49,11 @@ send_tree-loop-member-init g t c =
     let tree = g.S.TreeStore.tree c.args.store.now in
     let named = g.S.TreeStore.names c.args.store.now in
     let names = c.args.names.now in
-    let entries = c.in_ok-texts.texts.entries in
+    let entries = c.in_ok-texts.texts.items in
     let path = c.as_slice-2.result.now in
     let texts : AreTextsOf names (here c.args.at.now.items tree) entries =
     subst (λ (at : List Tagged). AreTextsOf names (here at tree) entries) c.as_slice.ensures.value
-    (IfOk-at_ok (λ ts. AreTextsOf names (here c.as_slice.result.now tree) ts.entries) {r = c.texts_at.result} c.in_ok-texts.ensures c.texts_at.ensures) in
+    (IfOk-at_ok (λ ts. AreTextsOf names (here c.as_slice.result.now tree) ts.items) {r = c.texts_at.result} c.in_ok-texts.ensures c.texts_at.ensures.texts) in
     let shown : AreTextsOf names (here path tree) entries → AreMembersOf named path names (here path tree) c.in_ok-members.members.items =
     IfOk-at_ok (λ ms. (names : List (List ℕ)) → AreTextsOf names (here path tree) entries → AreMembersOf named path names (here path tree) ms.items) {r = c.members_at.result} c.in_ok-members.ensures c.members_at.ensures names in
     let members : AreMembersOf named c.args.at.now.items names (here c.args.at.now.items tree) c.in_ok-members.members.items =

@@ -1,37 +1,43 @@
-use Rattle.std.proofs.Common.{rules, sym, refl, subst}
+use Rattle.std.proofs.Common.{rules, ◌≡◌, ◌∷◌, ◌+◌, drop, refl, sym, ap, ◌∙◌, subst}
+use Rattle.std.proofs.lemmas.List.{drop_more, drop_all}
 use Rattle.jc_tree.specs.Tree.{here}
 use Rattle.jc_json.specs.declared.tree.Member.{Member}
 use Rattle.jc_json.specs.Parts.{LentText}
 use Rattle.jc_json.proofs.PartsMembersLemmas.{AreSoFar, so_far_begins, so_far_skips, so_far_adds, so_far_ends}
 use Rattle.jc_json.proofs.tree.members_of.Goals as goal
+use Rattle.jc_json.proofs.tree.members_of.Goals.{in-Some+in_ok-put_last, in_default}
 
 pub loop-text-init : goal.loop-text-init
 loop-text-init g c =
     let d = here c.args.at.now (g.S.TreeStore.tree c.args.store.now) in
-    subst (AreSoFar (g.S.TreeStore.names c.args.store.now) c.args.at.now d c.args.kind c.args.texts.now.entries _) (sym c.new-members.ensures.items)
-    (so_far_begins (g.S.TreeStore.names c.args.store.now) c.args.at.now d c.args.kind c.args.texts.now.entries _ (search rules) c.iter-text-items.ensures.ordered)
-
-pub loop-text-preserved-in-Continue-1 : goal.loop-text-preserved-in-Continue-1
-loop-text-preserved-in-Continue-1 g c =
-    let named = g.S.TreeStore.names c.args.store.now in
-    let at = c.args.at.now in
-    let d = here at (g.S.TreeStore.tree c.args.store.now) in
-    let kind = c.args.kind in
-    let all = c.args.texts.now.entries in
-    let entry : LentText = (c.in-Some.text.now, c.in-Some.lent.now) in
-    let m : Member = record { kind = kind; text = c.as_str-text.result; part = c.in-Some-part_at.part } in
-    so_far_adds named at d kind entry all c.loop-text.text-iterator c.next.new.self c.loop-text.members.items c.in-Some.ensures.steps m refl c.as_str-text.ensures.value
-    (λ names. c.in-Some-part_at.ensures.shown names) c.in-Some-part_at.ensures.part c.put_last.new.members.items c.in_ok-put_last.ensures c.loop-text.invariant
+    subst (AreSoFar (g.S.TreeStore.names c.args.store.now) c.args.at.now d c.args.kind c.args.texts.now.items _) (sym c.new-members.ensures.items)
+    (so_far_begins (g.S.TreeStore.names c.args.store.now) c.args.at.now d c.args.kind c.args.texts.now.items _ c.as_slice-text-items.ensures.value c.requires.order)
 
 pub loop-text-preserved : goal.loop-text-preserved
 loop-text-preserved g c =
     let named = g.S.TreeStore.names c.args.store.now in
     let at = c.args.at.now in
     let d = here at (g.S.TreeStore.tree c.args.store.now) in
-    let entry : LentText = (c.in-Some.text.now, c.in-Some.lent.now) in
-    so_far_skips named at d c.args.kind entry c.args.texts.now.entries c.loop-text.text-iterator c.next.new.self c.loop-text.members.items c.in-Some.ensures.steps (λ names. c.in_default.ensures.shown names) c.loop-text.invariant
+    let kind = c.args.kind in
+    let all = c.args.texts.now.items in
+    let items = c.as_slice-text-items.result.now in
+    let i = c.loop-text.text-index in
+    let old = c.loop-text.members.items in
+    let entry : LentText = c.loop-text-item.result in
+    let is : drop i items ≡ entry ∷ drop (i + 1) items = drop_more items i entry c.loop-text-test.true ∙ ap (λ (e : LentText). e ∷ drop (i + 1) items) (sym c.loop-text-item.is) in
+    elim c.match-part_at.branch [
+      | in-Some+in_ok-put_last w ↦
+          let m : Member = record { kind = kind; text = w.as_str-text.result; part = w.in-Some.part } in
+          let new : c.match-part_at.members.items ≡ w.put_last.new.members.items = search rules in
+          so_far_adds named at d kind entry all (drop i items) (drop (i + 1) items) old is m refl w.as_str-text.ensures.value
+          (λ names. w.in-Some.ensures.shown names) w.in-Some.ensures.part c.match-part_at.members.items (new ∙ w.in_ok-put_last.ensures) c.loop-text.invariant
+      | in_default w ↦
+          let same : c.match-part_at.members.items ≡ old = search rules in
+          subst (AreSoFar named at d kind all (drop (i + 1) items)) (sym same)
+          (so_far_skips named at d kind entry all (drop i items) (drop (i + 1) items) old is (λ names. w.in_default.ensures.shown names) c.loop-text.invariant)
+    ]
 
 pub returns : goal.returns
 returns g c =
     let d = here c.args.at.now (g.S.TreeStore.tree c.args.store.now) in
-    so_far_ends (g.S.TreeStore.names c.args.store.now) c.args.at.now d c.args.kind c.args.texts.now.entries _ _ c.in-None.ensures.steps.0 c.loop-text.invariant
+    so_far_ends (g.S.TreeStore.names c.args.store.now) c.args.at.now d c.args.kind c.args.texts.now.items _ _ (drop_all c.loop-text.text-index c.as_slice-text-items.result.now c.loop-text-test.false) c.loop-text.invariant

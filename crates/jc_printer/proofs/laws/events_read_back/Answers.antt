@@ -1,4 +1,4 @@
-use Rattle.std.proofs.Common.{sym, refl}
+use Rattle.std.proofs.Common.{sym}
 use Rattle.jc_grammar.specs.Symbols.{lexemes}
 use Rattle.jc_parser.specs.GrammarTrees.{event_of_tree}
 use Rattle.jc_printer.specs.Canon.{canon_event}

@@ -1,51 +1,38 @@
-use Rattle.std.proofs.Common.{rules, ◌≡◌, ◌≤◌, ◌<◌, List, ℕ, length, insert, get_or, ap, ◌∙◌, arith}
-use Rattle.std.specs.Vec.{vec_len}
+use Rattle.std.proofs.Common.{◌≡◌, List, ℕ, Some, None, sym, ap, ◌∙◌, subst}
+use Rattle.std.specs.Option.{option_map}
+use Rattle.std.specs.BTreeMap.{is_at, insert_entry}
+use Rattle.std.proofs.lemmas.Map.Steps.{set_value_same}
+use Rattle.jc_rules.specs.Entries.{find}
+use Rattle.jc_rules.specs.Order.{name_cmp}
+use Rattle.jc_tree.proofs.SortedMapLemmas.{as_err}
 use Rattle.jc_cursor.specs.declared.bound.Bound.{Bound}
-use Rattle.jc_cursor.specs.Bounds.{vars_of}
-use Rattle.jc_replica.specs.Variables.{first_from}
-use Rattle.jc_replica.proofs.VariableNamesLemmas.{bound_at, bound_new, place_within, same_text}
-use Rattle.jc_replica.proofs.ScriptLemmas.{read_twice}
-use Rattle.jc_replica.proofs.vars.bind_var.Goals.{else-place-len-via-then-place-len+else-eq, else-place-len-via-else-place-len}
+use Rattle.jc_cursor.specs.Bounds.{bound_of, vars_of}
+use Rattle.jc_cursor.proofs.BoundsLemmas.{looked_up}
+use Rattle.jc_replica.specs.Variables.{IsBound}
+use Rattle.jc_replica.proofs.VariableNamesLemmas.{bound_new, bound_again}
 use Rattle.jc_replica.proofs.vars.bind_var.Goals as goal
 
-pub returns-then-eq-clause-ok : goal.returns-then-eq-clause-ok
-returns-then-eq-clause-ok c =
-    let vs = c.args.vars.now.items in
-    let p = c.place_of-place.result in
-    let all : c.as_slice.result.now ≡ vs = search rules in
-    let ne = c.place_of-place.ensures ∙ ap (λ ws. first_from c.args.name (vars_of ws)) all in
-    let within : p < length vs = search rules in
-    let at : c.index.result.now ≡ get_or vs p c.index.result.now = search rules in
-    let is : c.index_mut.result.now ≡ get_or vs p c.index_mut.result.now = search rules in
-    let same : c.index.result.now.0 ≡ c.args.name = search rules in
-    let name = ap (λ e. e.0) (read_twice vs p c.index_mut.result.now c.index.result.now within is at) ∙ same in
-    let put : c.swap.new.y ≡ c.args.bound = search rules in
-    let was : c.swap.new.x ≡ c.index_mut.result.now.1 = search rules in
-    bound_at vs p c.args.name c.args.bound c.swap.new.y c.swap.new.x c.index_mut.result.now ne within is name put was
+pub returns-in_err-before-clause-err : goal.returns-in_err-before-clause-err
+returns-in_err-before-clause-err c =
+    as_err c.from_residual.result ((c.get_mut.follows.holds c.in-Some.there.now).0 ∙ set_value_same (is_at (name_cmp c.args.name.now)) c.args.vars.now.entries c.in-Some.there.now (sym c.in-Some.ensures.value))
 
-pub insert-requires : goal.insert-requires
-insert-requires c =
-    let vs = c.args.vars.now.items in
-    let p = c.place_of-place.result in
-    let all : c.as_slice.result.now ≡ vs = search rules in
-    let ne = c.place_of-place.ensures ∙ ap (λ ws. first_from c.args.name (vars_of ws)) all in
-    let within = place_within vs p c.args.name ne in
-    let len : vec_len c.args.vars.now ≡ length vs = search rules in
-    omega (arith, within, len)
+pub returns-in-Some-clause-ok : goal.returns-in-Some-clause-ok
+returns-in-Some-clause-ok c =
+    let x = c.args.name.now in
+    let vs = c.args.vars.now.entries in
+    let new = (c.get_mut.follows.lender c.swap.new.y).entries in
+    let found : find name_cmp x (vars_of vs) ≡ Some (bound_of c.in-Some.there.now) = sym (looked_up x vs) ∙ ap (option_map bound_of) (sym c.in-Some.ensures.value) in
+    let put : c.swap.new.y ≡ c.args.bound = c.swap.ensures.y_after ∙ c.deref_mut.ensures.value ∙ c.in_ok-before.ensures.ok in
+    let bound : IsBound x (bound_of c.swap.new.y) (Some (bound_of c.in-Some.there.now)) (vars_of vs) (vars_of new) =
+    bound_again x c.swap.new.y c.in-Some.there.now vs new found (c.get_mut.follows.holds c.swap.new.y).0 in
+    subst (λ (b : Bound). IsBound x (bound_of b) (Some (bound_of c.swap.new.x)) (vars_of vs) (vars_of new)) put
+    (subst (λ (b : Bound). IsBound x (bound_of c.swap.new.y) (Some (bound_of b)) (vars_of vs) (vars_of new)) (sym c.swap.ensures.x_after) bound)
 
 pub returns-clause-ok : goal.returns-clause-ok
 returns-clause-ok c =
-    let vs = c.args.vars.now.items in
-    let p = c.place_of-place.result in
-    let all : c.as_slice.result.now ≡ vs = search rules in
-    let ne = c.place_of-place.ensures ∙ ap (λ ws. first_from c.args.name (vars_of ws)) all in
-    let new : c.insert.new.self.items ≡ insert vs p (c.args.name, c.args.bound) = search rules in
-    let none : (d : List ℕ × Bound) → p < length vs → d ≡ get_or vs p d → d.0 ≡ c.args.name → ⊥ =
-    λ d l g s. elim c.else-place-len.branch [
-      | else-place-len-via-then-place-len+else-eq w ↦
-          (let at : w.index.result.now ≡ get_or vs p w.index.result.now = search rules in
-          let name : w.index.result.now.0 ≡ c.args.name = ap (λ e. e.0) (read_twice vs p w.index.result.now d l at g) ∙ s in
-          same_text w.index.result.now.0 c.args.name w.eq.result w.eq.ensures w.if-eq.false name)
-      | else-place-len-via-else-place-len w ↦ (let past : length vs ≤ p = search rules in absurd (omega (arith, l, past)))
-    ] in
-    bound_new vs c.insert.new.self.items p c.args.name c.args.bound c.requires ne none new
+    let x = c.args.name.now in
+    let vs = c.args.vars.now.entries in
+    let b = c.args.bound in
+    let none : find name_cmp x (vars_of vs) ≡ None = sym (looked_up x vs) ∙ ap (option_map bound_of) (sym c.in_default.ensures.value) in
+    bound_new x b vs c.insert.new.self.entries none
+    (c.in_ok-insert.ensures.entries ∙ ap (λ m. insert_entry name_cmp m.entries c.in_ok-copy.field-0 b) c.get_mut.follows.holds-at-none ∙ ap (λ (y : List ℕ). insert_entry name_cmp vs y b) c.in_ok-copy.ensures)

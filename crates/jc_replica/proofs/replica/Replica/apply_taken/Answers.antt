@@ -19,7 +19,7 @@ apply_to-requires-clause-fresh g c =
     let i = c.self.inside in
     let t = g.S.TreeStore.tree i.store in
     let script = map cmd_of i.script.items in
-    let h : Held = held_of i.done i.acted (vars_of i.vars.items) i.ops i.queue.items i.sent i.recv in
+    let h : Held = held_of i.done i.acted (vars_of i.vars.entries) i.ops i.queue.items i.sent i.recv in
     let found : op_of c.args.id i.recv ≡ Some c.in-Some.op.now = sym c.find.ensures ∙ ap option_copied c.in-Some.is in
     let takes = takes_again _ (state_of script h t.now) c.args.id _ c.in-Some.op.now c.requires.1 (ap (λ (p : ReplicaHistory). p.history.now) (sym c.self.view_is)) found in
     fresh script h t.now c.args.id c.in-Some.op.now (ready_now c.self.invariant) takes
@@ -32,7 +32,7 @@ apply_to-requires-clause-above g c =
     let i = c.self.inside in
     let t = g.S.TreeStore.tree i.store in
     let script = map cmd_of i.script.items in
-    let h : Held = held_of i.done i.acted (vars_of i.vars.items) i.ops i.queue.items i.sent i.recv in
+    let h : Held = held_of i.done i.acted (vars_of i.vars.entries) i.ops i.queue.items i.sent i.recv in
     let found : op_of c.args.id i.recv ≡ Some c.in-Some.op.now = sym c.find.ensures ∙ ap option_copied c.in-Some.is in
     let takes = takes_again _ (state_of script h t.now) c.args.id _ c.in-Some.op.now c.requires.1 (ap (λ (p : ReplicaHistory). p.history.now) (sym c.self.view_is)) found in
     above_own script h t.now c.args.id c.in-Some.op.now (ready_now c.self.invariant) takes
@@ -47,7 +47,7 @@ returns-in_err-apply_to g c =
     let tree = c.in_err-apply_to.ensures.err_store in
     let ops = c.in_err-apply_to.ensures.err_ops in
     let steps = c.in_ok-reserve.ensures.items in
-    let same = (λ n. replica_history_of i.number script (tree n) (steps n) (held_of i.done i.acted (vars_of i.vars.items) (ops n) i.queue.items i.sent i.recv)) ∙ c.self.view_is in
+    let same = (λ n. replica_history_of i.number script (tree n) (steps n) (held_of i.done i.acted (vars_of i.vars.entries) (ops n) i.queue.items i.sent i.recv)) ∙ c.self.view_is in
     rw (p.1, p.2) (same, refused_all c.args.self.now c.args.id c.in-Some.op.now (g.S.TreeStore.tree i.store).now c.in_err-apply_to.field-0.0 (ap (λ (q : ReplicaHistory). q.history.now.tree) c.self.view_is) takes c.in_err-apply_to.ensures.refused)
 
 pub invariant_of-self-2 : goal.invariant_of-self-2
@@ -56,7 +56,7 @@ invariant_of-self-2 g c =
     let t = g.S.TreeStore.tree i.store in
     let u = g.S.TreeStore.tree c.apply_to.new.store in
     let script = map cmd_of i.script.items in
-    let h : Held = held_of i.done i.acted (vars_of i.vars.items) i.ops i.queue.items i.sent i.recv in
+    let h : Held = held_of i.done i.acted (vars_of i.vars.entries) i.ops i.queue.items i.sent i.recv in
     let found : op_of c.args.id i.recv ≡ Some c.in-Some.op.now = sym c.find.ensures ∙ ap option_copied c.in-Some.is in
     let takes = takes_again _ (state_of script h t.now) c.args.id _ c.in-Some.op.now c.requires.1 (ap (λ (p : ReplicaHistory). p.history.now) (sym c.self.view_is)) found in
     let one : c.push.new.self.items ≡ i.steps.items ++ record { mark = c.mark-mark.result; change = C.Applied c.args.id c.greatest_of-before.result i.acted } ∷ [] = search rules in
@@ -69,7 +69,7 @@ returns g c =
     let t = g.S.TreeStore.tree i.store in
     let u = g.S.TreeStore.tree c.apply_to.new.store in
     let script = map cmd_of i.script.items in
-    let h : Held = held_of i.done i.acted (vars_of i.vars.items) i.ops i.queue.items i.sent i.recv in
+    let h : Held = held_of i.done i.acted (vars_of i.vars.entries) i.ops i.queue.items i.sent i.recv in
     let found : op_of c.args.id i.recv ≡ Some c.in-Some.op.now = sym c.find.ensures ∙ ap option_copied c.in-Some.is in
     let takes = takes_again _ (state_of script h t.now) c.args.id _ c.in-Some.op.now c.requires.1 (ap (λ (p : ReplicaHistory). p.history.now) (sym c.self.view_is)) found in
     let one : c.push.new.self.items ≡ i.steps.items ++ record { mark = c.mark-mark.result; change = C.Applied c.args.id c.greatest_of-before.result i.acted } ∷ [] = search rules in

@@ -19,13 +19,8 @@ unreachable-requires g c =
     let next = is_next i.script.items i.done c.index.result.now (LetIn c.requires.name c.requires.expr) c.requires.rest (ap (λ (p : ReplicaHistory). p.history.now.left) c.self.view_is ∙ c.requires.next) is in
     only_let c.index.result.now c.requires.name c.requires.expr next c.in_default.not-Let
 
-pub eval_sorted-requires-clause-chained : goal.eval_sorted-requires-clause-chained
-eval_sorted-requires-clause-chained g c = (ready_now c.self.invariant).chained
-
-pub eval_sorted-requires-clause-sorted : goal.eval_sorted-requires-clause-sorted
-eval_sorted-requires-clause-sorted g c =
-    let all : c.as_slice.result.now ≡ c.self.inside.vars.items = search rules in
-    rw all (ready_now c.self.invariant).named
+pub eval_in_map-requires : goal.eval_in_map-requires
+eval_in_map-requires g c = (ready_now c.self.invariant).chained
 
 pub returns-in_err-bound-clause-err : goal.returns-in_err-bound-clause-err
 returns-in_err-bound-clause-err g c =
@@ -33,10 +28,9 @@ returns-in_err-bound-clause-err g c =
     let is : c.index.result.now ≡ get_or i.script.items i.done c.index.result.now = search rules in
     let next = is_next i.script.items i.done c.index.result.now (LetIn c.requires.name c.requires.expr) c.requires.rest (ap (λ (p : ReplicaHistory). p.history.now.left) c.self.view_is ∙ c.requires.next) is in
     let same = same_let c.in-Let.name c.requires.name (expr_of c.in-Let.expr) c.requires.expr (ap cmd_of (sym c.in-Let.is) ∙ next) in
-    let all : c.as_slice.result.now ≡ i.vars.items = search rules in
-    let vars = ap (λ vs. vars_of vs) all ∙ ap (λ (p : ReplicaHistory). p.history.now.vars) c.self.view_is in
+    let vars = ap (λ (p : ReplicaHistory). p.history.now.vars) c.self.view_is in
     let tree = ap (λ (p : ReplicaHistory). p.history.now.tree) c.self.view_is in
-    handed_up (E.Exec c.args.self.now.number) [] c.args.self.now c.from_residual-in_err-bound.result (eval_cause_of c.in_err-bound.field-0.0) (λ why. IsEvalRefused (g.S.TreeStore.tree i.store).now (vars_of c.as_slice.result.now) (expr_of c.in-Let.expr) why) c.from_residual-in_err-bound.ensures.1
+    handed_up (E.Exec c.args.self.now.number) [] c.args.self.now c.from_residual-in_err-bound.result (eval_cause_of c.in_err-bound.field-0.0) (λ why. IsEvalRefused (g.S.TreeStore.tree i.store).now (vars_of i.vars.entries) (expr_of c.in-Let.expr) why) c.from_residual-in_err-bound.ensures.1
     (λ why r. λ set os A stands of. refused_let set c.args.self.now.number A c.args.self.now.history.now stands os c.requires why (refused_in tree vars same.1 r))
     c.in_err-bound.ensures.refused
 
@@ -46,7 +40,6 @@ returns-clause-ok g c =
     let is : c.index.result.now ≡ get_or i.script.items i.done c.index.result.now = search rules in
     let next = is_next i.script.items i.done c.index.result.now (LetIn c.requires.name c.requires.expr) c.requires.rest (ap (λ (p : ReplicaHistory). p.history.now.left) c.self.view_is ∙ c.requires.next) is in
     let same = same_let c.in-Let.name c.requires.name (expr_of c.in-Let.expr) c.requires.expr (ap cmd_of (sym c.in-Let.is) ∙ next) in
-    let all : c.as_slice.result.now ≡ i.vars.items = search rules in
-    let vars = ap (λ vs. vars_of vs) all ∙ ap (λ (p : ReplicaHistory). p.history.now.vars) c.self.view_is in
+    let vars = ap (λ (p : ReplicaHistory). p.history.now.vars) c.self.view_is in
     let tree = ap (λ (p : ReplicaHistory). p.history.now.tree) c.self.view_is in
     binds c.args.self.now.history.now c.requires _ _ _ _ _ _ (c.in_ok-copy.ensures ∙ same.0) c.in_ok-open.ensures.ok c.in_ok-open-2.ensures.ok (evaluated_in tree vars same.1 c.in_ok-bound.ensures.ok)

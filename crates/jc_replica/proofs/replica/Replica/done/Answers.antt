@@ -21,8 +21,8 @@ invariant_of-self-2 g c =
     let i = c.self.inside in
     let script = map cmd_of i.script.items in
     let t = g.S.TreeStore.tree i.store in
-    let h : Held = held_of i.done i.acted (vars_of i.vars.items) i.ops i.queue.items i.sent i.recv in
-    let h2 : Held = held_of (i.done + 1) false (vars_of i.vars.items) i.ops i.queue.items i.sent i.recv in
+    let h : Held = held_of i.done i.acted (vars_of i.vars.entries) i.ops i.queue.items i.sent i.recv in
+    let h2 : Held = held_of (i.done + 1) false (vars_of i.vars.entries) i.ops i.queue.items i.sent i.recv in
     let r : Record = record { mark = c.mark.result; change = C.Ended } in
     let left = ap (λ (p : ReplicaHistory). p.history.now.left) c.self.view_is ∙ c.in_ok-at_yield.ensures.ok.1 in
     let acted : h.acted ≡ true = search rules in
@@ -34,8 +34,8 @@ returns g c =
     let i = c.self.inside in
     let script = map cmd_of i.script.items in
     let t = g.S.TreeStore.tree i.store in
-    let h : Held = held_of i.done i.acted (vars_of i.vars.items) i.ops i.queue.items i.sent i.recv in
-    let h2 : Held = held_of (i.done + 1) false (vars_of i.vars.items) i.ops i.queue.items i.sent i.recv in
+    let h : Held = held_of i.done i.acted (vars_of i.vars.entries) i.ops i.queue.items i.sent i.recv in
+    let h2 : Held = held_of (i.done + 1) false (vars_of i.vars.entries) i.ops i.queue.items i.sent i.recv in
     let r : Record = record { mark = c.mark.result; change = C.Ended } in
     let left = ap (λ (p : ReplicaHistory). p.history.now.left) c.self.view_is ∙ c.in_ok-at_yield.ensures.ok.1 in
     let acted : h.acted ≡ true = search rules in

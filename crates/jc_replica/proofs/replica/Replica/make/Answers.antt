@@ -45,8 +45,8 @@ returns-in_err-apply_to g c =
     let oe : c.apply_to.new.ops ≡ i.ops = c.in_err-apply_to.ensures.err_ops in
     let qe : c.reserve-2.new.self.items ≡ i.queue.items = search rules in
     let se : c.reserve.new.self.items ≡ i.steps.items = search rules in
-    let same : replica_history_of i.number script (g.S.TreeStore.tree c.apply_to.new.store) c.reserve.new.self.items (held_of i.done i.acted (vars_of i.vars.items) c.apply_to.new.ops c.reserve-2.new.self.items i.sent i.recv) ≡ old =
-    (λ k. replica_history_of i.number script (te k) (se k) (held_of i.done i.acted (vars_of i.vars.items) (oe k) (qe k) i.sent i.recv)) ∙ c.self.view_is in
+    let same : replica_history_of i.number script (g.S.TreeStore.tree c.apply_to.new.store) c.reserve.new.self.items (held_of i.done i.acted (vars_of i.vars.entries) c.apply_to.new.ops c.reserve-2.new.self.items i.sent i.recv) ≡ old =
+    (λ k. replica_history_of i.number script (te k) (se k) (held_of i.done i.acted (vars_of i.vars.entries) (oe k) (qe k) i.sent i.recv)) ∙ c.self.view_is in
     let m : MakesOp old.history.now old.number c.in_ok-op.op c.new-trace.result c.make_op.new.trace = c.in_ok-op.ensures.ok in
     let tree = ap (λ (p : ReplicaHistory). p.history.now.tree) c.self.view_is in
     refused_call (E.Exec old.number) [] old _ c.from_residual-in_err-apply_to.result c.in_err-apply_to.field-0.0 c.from_residual-in_err-apply_to.ensures.1 same
@@ -60,11 +60,11 @@ invariant_of-self-2 g c =
     let i = c.self.inside in
     let op = c.in_ok-op.op in
     let m = subst (λ (p : ReplicaHistory). MakesOp p.history.now p.number op c.new-trace.result c.make_op.new.trace) (sym c.self.view_is) c.in_ok-op.ensures.ok in
-    let h : Held = held_of i.done i.acted (vars_of i.vars.items) i.ops i.queue.items i.sent i.recv in
+    let h : Held = held_of i.done i.acted (vars_of i.vars.entries) i.ops i.queue.items i.sent i.recv in
     let oe = c.in_ok-apply_to.ensures.ops in
     let qe : c.push.new.self.items ≡ i.queue.items ++ op ∷ [] = search rules in
-    let he : held_of (i.done + 1) i.acted (vars_of i.vars.items) c.apply_to.new.ops c.push.new.self.items i.sent i.recv ≡ made_held h op =
-    (λ k. held_of (i.done + 1) i.acted (vars_of i.vars.items) (oe k) (qe k) i.sent i.recv) in
+    let he : held_of (i.done + 1) i.acted (vars_of i.vars.entries) c.apply_to.new.ops c.push.new.self.items i.sent i.recv ≡ made_held h op =
+    (λ k. held_of (i.done + 1) i.acted (vars_of i.vars.entries) (oe k) (qe k) i.sent i.recv) in
     let r : Record = record { mark = c.mark-mark.result; change = C.Made op.id c.greatest_of-before.result } in
     let se : c.push-2.new.self.items ≡ i.steps.items ++ r ∷ [] = search rules in
     made_kept_replica c.self.invariant i.number op _ _ c.new-trace.ensures m (g.S.TreeStore.tree c.apply_to.new.store) c.push-2.new.self.items _ c.mark-mark.result c.greatest_of-before.result he c.in_ok-apply_to.ensures.later c.in_ok-apply_to.ensures.chained c.in_ok-apply_to.ensures.unlinked se c.mark-mark.ensures c.greatest_of-before.ensures.exact
@@ -74,11 +74,11 @@ returns g c =
     let i = c.self.inside in
     let op = c.in_ok-op.op in
     let m = subst (λ (p : ReplicaHistory). MakesOp p.history.now p.number op c.new-trace.result c.make_op.new.trace) (sym c.self.view_is) c.in_ok-op.ensures.ok in
-    let h : Held = held_of i.done i.acted (vars_of i.vars.items) i.ops i.queue.items i.sent i.recv in
+    let h : Held = held_of i.done i.acted (vars_of i.vars.entries) i.ops i.queue.items i.sent i.recv in
     let oe = c.in_ok-apply_to.ensures.ops in
     let qe : c.push.new.self.items ≡ i.queue.items ++ op ∷ [] = search rules in
-    let he : held_of (i.done + 1) i.acted (vars_of i.vars.items) c.apply_to.new.ops c.push.new.self.items i.sent i.recv ≡ made_held h op =
-    (λ k. held_of (i.done + 1) i.acted (vars_of i.vars.items) (oe k) (qe k) i.sent i.recv) in
+    let he : held_of (i.done + 1) i.acted (vars_of i.vars.entries) c.apply_to.new.ops c.push.new.self.items i.sent i.recv ≡ made_held h op =
+    (λ k. held_of (i.done + 1) i.acted (vars_of i.vars.entries) (oe k) (qe k) i.sent i.recv) in
     let r : Record = record { mark = c.mark-mark.result; change = C.Made op.id c.greatest_of-before.result } in
     let se : c.push-2.new.self.items ≡ i.steps.items ++ r ∷ [] = search rules in
     let rows : c.close.new.self ≡ at_depth 0 c.apply_to.new.trace = search rules in

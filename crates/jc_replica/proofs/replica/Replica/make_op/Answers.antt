@@ -14,31 +14,25 @@ use Rattle.jc_replica.proofs.ScriptLemmas.{is_next}
 use Rattle.jc_replica.proofs.replica.Replica.make_op.Goals as goal
 use Rattle.jc_cursor.proofs.EvaluatesLemmas.{not_cursor}
 
-pub place_of-requires : goal.place_of-requires
-place_of-requires g c =
+pub place_of-place-requires : goal.place_of-place-requires
+place_of-place-requires g c =
     let i = c.self.inside in
     let is : c.index-command.result.now ≡ get_or i.script.items i.done c.index-command.result.now = search rules in
     let next = is_next i.script.items i.done c.index-command.result.now c.requires.command c.requires.rest (ap (λ (p : ReplicaHistory). p.history.now.left) c.self.view_is ∙ c.requires.next) is in
     subst IsMaking (sym next) c.requires.makes
 
-pub eval_sorted-requires-clause-chained : goal.eval_sorted-requires-clause-chained
-eval_sorted-requires-clause-chained g c = (ready_now c.self.invariant).chained
-
-pub eval_sorted-requires-clause-sorted : goal.eval_sorted-requires-clause-sorted
-eval_sorted-requires-clause-sorted g c =
-    let all : c.as_slice.result.now ≡ c.self.inside.vars.items = search rules in
-    rw all (ready_now c.self.invariant).named
+pub eval_in_map-requires : goal.eval_in_map-requires
+eval_in_map-requires g c = (ready_now c.self.invariant).chained
 
 pub returns-in_err-bound-clause-err : goal.returns-in_err-bound-clause-err
 returns-in_err-bound-clause-err g c =
     let i = c.self.inside in
     let is : c.index-command.result.now ≡ get_or i.script.items i.done c.index-command.result.now = search rules in
     let next = is_next i.script.items i.done c.index-command.result.now c.requires.command c.requires.rest (ap (λ (p : ReplicaHistory). p.history.now.left) c.self.view_is ∙ c.requires.next) is in
-    let all : c.as_slice.result.now ≡ i.vars.items = search rules in
-    let vars = ap (λ vs. vars_of vs) all ∙ ap (λ (p : ReplicaHistory). p.history.now.vars) c.self.view_is in
+    let vars = ap (λ (p : ReplicaHistory). p.history.now.vars) c.self.view_is in
     let tree = ap (λ (p : ReplicaHistory). p.history.now.tree) c.self.view_is in
-    let expr = c.place_of.ensures ∙ ap expr_by next in
-    handed_up (E.Exec c.args.self.now.number) [] c.args.self.now c.from_residual-in_err-bound.result (eval_cause_of c.in_err-bound.field-0.0) (λ why. IsEvalRefused (g.S.TreeStore.tree i.store).now (vars_of c.as_slice.result.now) (expr_of c.place_of.result.now) why) c.from_residual-in_err-bound.ensures.1
+    let expr = c.place_of-place.ensures ∙ ap expr_by next in
+    handed_up (E.Exec c.args.self.now.number) [] c.args.self.now c.from_residual-in_err-bound.result (eval_cause_of c.in_err-bound.field-0.0) (λ why. IsEvalRefused (g.S.TreeStore.tree i.store).now (vars_of i.vars.entries) (expr_of c.place_of-place.result.now) why) c.from_residual-in_err-bound.ensures.1
     (λ why r. λ set os A stands of. refused_first set c.args.self.now.number A c.args.self.now.history.now stands c.requires.command c.requires.rest c.requires.next c.requires.makes os why (refused_in tree vars expr r))
     c.in_err-bound.ensures.refused
 
@@ -47,10 +41,9 @@ returns-in_default g c =
     let i = c.self.inside in
     let is : c.index-command.result.now ≡ get_or i.script.items i.done c.index-command.result.now = search rules in
     let next = is_next i.script.items i.done c.index-command.result.now c.requires.command c.requires.rest (ap (λ (p : ReplicaHistory). p.history.now.left) c.self.view_is ∙ c.requires.next) is in
-    let all : c.as_slice.result.now ≡ i.vars.items = search rules in
-    let vars = ap (λ vs. vars_of vs) all ∙ ap (λ (p : ReplicaHistory). p.history.now.vars) c.self.view_is in
+    let vars = ap (λ (p : ReplicaHistory). p.history.now.vars) c.self.view_is in
     let tree = ap (λ (p : ReplicaHistory). p.history.now.tree) c.self.view_is in
-    let expr = c.place_of.ensures ∙ ap expr_by next in
+    let expr = c.place_of-place.ensures ∙ ap expr_by next in
     record {
       ok = tt;
       err = λ set os A stands of. refused_bound set c.args.self.now.number A c.args.self.now.history.now stands c.requires.command c.requires.rest c.requires.next c.requires.makes os (bound_of c.in_ok-bound.bound) _ _ (evaluated_in tree vars expr c.in_ok-bound.ensures.ok) (not_cursor c.in_ok-bound.bound c.in_default.not-Cursor);
@@ -67,13 +60,12 @@ returns-clause-ok g c =
     let K = c.args.self.now.history.now in
     let is : c.index-command.result.now ≡ get_or i.script.items i.done c.index-command.result.now = search rules in
     let next = is_next i.script.items i.done c.index-command.result.now c.requires.command c.requires.rest (ap (λ (p : ReplicaHistory). p.history.now.left) c.self.view_is ∙ c.requires.next) is in
-    let all : c.as_slice.result.now ≡ i.vars.items = search rules in
-    let vars = ap (λ vs. vars_of vs) all ∙ ap (λ (p : ReplicaHistory). p.history.now.vars) c.self.view_is in
+    let vars = ap (λ (p : ReplicaHistory). p.history.now.vars) c.self.view_is in
     let tree = ap (λ (p : ReplicaHistory). p.history.now.tree) c.self.view_is in
-    let expr = c.place_of.ensures ∙ ap expr_by next in
+    let expr = c.place_of-place.ensures ∙ ap expr_by next in
     let ev = evaluated_in tree vars expr c.in_ok-bound.ensures.ok in
-    let cursor = subst (λ b. Evaluates K.tree K.vars (expr_by c.requires.command) (bound_of b) c.open-2.new.self c.eval_sorted.new.trace) c.in-Cursor.is ev in
-    let shared = subst (λ k. Evaluates K.tree K.vars (expr_by c.requires.command) (bound_of (B.Cursor k)) c.open-2.new.self c.eval_sorted.new.trace) (sym c.in_ok-cursor.ensures) cursor in
+    let cursor = subst (λ b. Evaluates K.tree K.vars (expr_by c.requires.command) (bound_of b) c.open-2.new.self c.eval_in_map.new.trace) c.in-Cursor.is ev in
+    let shared = subst (λ k. Evaluates K.tree K.vars (expr_by c.requires.command) (bound_of (B.Cursor k)) c.open-2.new.self c.eval_in_map.new.trace) (sym c.in_ok-cursor.ensures) cursor in
     let ops = ap (λ (p : ReplicaHistory). p.history.now.ops) c.self.view_is in
     let number = ap (λ (p : ReplicaHistory). p.number) c.self.view_is in
     makes K c.args.self.now.number i.number c.requires c.in_ok-cursor.cursor c.in_ok-mutation_of.field-0 c.greatest.result c.in_ok-copy.field-0 c.rule_of.result _ _ _ _ _ _

@@ -24,7 +24,7 @@ pub invariant_of-self-2 : goal.invariant_of-self-2
 invariant_of-self-2 g c =
     let i = c.self.inside in
     let t = g.S.TreeStore.tree i.store in
-    let h : Held = held_of i.done i.acted (vars_of i.vars.items) i.ops i.queue.items i.sent i.recv in
+    let h : Held = held_of i.done i.acted (vars_of i.vars.entries) i.ops i.queue.items i.sent i.recv in
     let r : Record = record { mark = c.mark-mark.result; change = C.Received c.in_ok-came.came i.acted } in
     let one : c.push-2.new.self.items ≡ i.steps.items ++ r ∷ [] = search rules in
     let all : c.deref.result.now ≡ i.queue.items = search rules in
@@ -38,7 +38,7 @@ pub returns-clause-received : goal.returns-clause-received
 returns-clause-received g c =
     let i = c.self.inside in
     let t = g.S.TreeStore.tree i.store in
-    let h : Held = held_of i.done i.acted (vars_of i.vars.items) i.ops i.queue.items i.sent i.recv in
+    let h : Held = held_of i.done i.acted (vars_of i.vars.entries) i.ops i.queue.items i.sent i.recv in
     let r : Record = record { mark = c.mark-mark.result; change = C.Received c.in_ok-came.came i.acted } in
     let one : c.push-2.new.self.items ≡ i.steps.items ++ r ∷ [] = search rules in
     let all : c.deref.result.now ≡ i.queue.items = search rules in

@@ -17,8 +17,8 @@ pub invariant_of-self-2 : goal.invariant_of-self-2
 invariant_of-self-2 g c =
     let i = c.self.inside in
     let t = g.S.TreeStore.tree i.store in
-    let h : Held = held_of i.done i.acted (vars_of i.vars.items) i.ops i.queue.items i.sent i.recv in
-    let h2 : Held = held_of i.done true (vars_of i.vars.items) i.ops i.queue.items c.len-self-inside.result i.recv in
+    let h : Held = held_of i.done i.acted (vars_of i.vars.entries) i.ops i.queue.items i.sent i.recv in
+    let h2 : Held = held_of i.done true (vars_of i.vars.entries) i.ops i.queue.items c.len-self-inside.result i.recv in
     let r : Record = record { mark = c.mark.result; change = C.Sent i.sent i.acted } in
     let len : c.len-self-inside.result ≡ length i.queue.items = search rules in
     let sent : h2 ≡ held_of h.done true h.vars h.ops h.queue (length h.queue) h.recv = ap (λ (n : ℕ). held_of h.done true h.vars h.ops h.queue n h.recv) len in
@@ -30,8 +30,8 @@ returns g c =
     let i = c.self.inside in
     let script = map cmd_of i.script.items in
     let t = g.S.TreeStore.tree i.store in
-    let h : Held = held_of i.done i.acted (vars_of i.vars.items) i.ops i.queue.items i.sent i.recv in
-    let h2 : Held = held_of i.done true (vars_of i.vars.items) i.ops i.queue.items c.len-self-inside.result i.recv in
+    let h : Held = held_of i.done i.acted (vars_of i.vars.entries) i.ops i.queue.items i.sent i.recv in
+    let h2 : Held = held_of i.done true (vars_of i.vars.entries) i.ops i.queue.items c.len-self-inside.result i.recv in
     let r : Record = record { mark = c.mark.result; change = C.Sent i.sent i.acted } in
     let ready = ready_now c.self.invariant in
     let left = ap (λ (p : ReplicaHistory). p.history.now.left) c.self.view_is ∙ c.in_ok-at_yield.ensures.ok.1 in
