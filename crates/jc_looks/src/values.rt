@@ -11,7 +11,7 @@ ghost use Rattle.jc_looks.specs.Looks.{Gives, OfReplica, no_value_answer};
 
 use crate::fault::{LookFault, refused_with};
 use jc_answers::Member;
-use jc_cursor::{Bound, EvalFault, eval};
+use jc_cursor::{Bound, EvalFault, eval_in_map};
 use jc_json::tagged_text;
 use jc_network::Net;
 use jc_rules::{Refusal, Tagged, Text, Trace};
@@ -66,7 +66,7 @@ pub fn value_of(alloc: Global, net: &Net, p: u16, expression: &Expr) -> Result<B
         unreachable!();
     };
     let mut trace = Trace::new(alloc);
-    match eval(alloc, replica.tree(), replica.vars(), expression, &mut trace) {
+    match eval_in_map(alloc, replica.tree(), replica.vars(), expression, &mut trace) {
         Ok(bound) => Ok(bound),
         Err(fault) => Err(LookFault::Refused(no_value(alloc, net.names(), &fault)?)),
     }
