@@ -1,7 +1,8 @@
 -- Of `Refusals` and `Parts`: the position behind one byte more.
-use Rattle.std.proofs.Common.{◌≡◌, ℕ, suc, ◌+◌, ◌<◌, Bool, true, false, not, List, [], ◌∷◌, ◌++◌, length, take, reverse, get_or, refl, ap, sym, ◌∙◌, arith, length-append}
+use Rattle.std.proofs.Common.{◌≡◌, ℕ, suc, ◌+◌, ◌<◌, Bool, true, false, not, List, [], ◌∷◌, ◌++◌, length, take, reverse, get_or, refl, ap, sym, ◌∙◌, arith, length-append, if◌then◌else◌}
 use Rattle.std.specs.List.{filter, take_while}
 use Rattle.std.proofs.lemmas.List.{take_more, reverse-append}
+use Rattle.std.proofs.lemmas.List.Sums.{take_while-cons}
 use Rattle.std.proofs.lemmas.List.Elements.{filter-append}
 use Rattle.jc_answers.specs.Refusals.{is_lf, lf_count, is_continuation, begins_character, line_behind, column_behind}
 use Rattle.jc_answers.specs.Parts.{next_line, next_column}
@@ -21,13 +22,19 @@ line_push xs b =
 one_more : (n : ℕ) → suc n + 1 ≡ n + 1 + 1
 one_more n = omega arith
 
-column_counted : (b : ℕ) (ys : List ℕ) → length (filter begins_character (take_while (λ c. not (is_lf c)) (b ∷ ys))) + 1 ≡ next_column (length (filter begins_character (take_while (λ c. not (is_lf c)) ys)) + 1) b
-column_counted b ys = by (is_lf b) (is_continuation b) refl refl
+-- the column behind a byte, by the bytes of its line before it
+counted : (b : ℕ) (line : List ℕ) → length (filter begins_character (if not (is_lf b) then b ∷ line else [])) + 1 ≡ next_column (length (filter begins_character line) + 1) b
+counted b line = by (is_lf b) (is_continuation b) refl refl
   where
-    by : (p q : Bool) → is_lf b ≡ p → is_continuation b ≡ q → length (filter begins_character (take_while (λ c. not (is_lf c)) (b ∷ ys))) + 1 ≡ next_column (length (filter begins_character (take_while (λ c. not (is_lf c)) ys)) + 1) b
+    by : (p q : Bool) → is_lf b ≡ p → is_continuation b ≡ q → length (filter begins_character (if not (is_lf b) then b ∷ line else [])) + 1 ≡ next_column (length (filter begins_character line) + 1) b
     by true q e f = rw e refl
     by false true e f = rw (e, f) refl
-    by false false e f = rw (e, f) (one_more (length (filter begins_character (take_while (λ c. not (is_lf c)) ys))))
+    by false false e f = rw (e, f) (one_more (length (filter begins_character line)))
+
+column_counted : (b : ℕ) (ys : List ℕ) → length (filter begins_character (take_while (λ c. not (is_lf c)) (b ∷ ys))) + 1 ≡ next_column (length (filter begins_character (take_while (λ c. not (is_lf c)) ys)) + 1) b
+column_counted b ys =
+    ap (λ line. length (filter begins_character line) + 1) (take_while-cons (λ c. not (is_lf c)) b ys)
+    ∙ counted b (take_while (λ c. not (is_lf c)) ys)
 
 column_push : (xs : List ℕ) (b : ℕ) → column_behind (xs ++ b ∷ []) ≡ next_column (column_behind xs) b
 column_push xs b =

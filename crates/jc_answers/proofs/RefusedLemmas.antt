@@ -1,5 +1,5 @@
 -- Of `Refusals`: the members of a refusal in memory, and that a text is refused at an offset by one answer.
-use Rattle.std.proofs.Common.{◌≡◌, ℕ, ◌<◌, ◌≤◌, List, [], ◌∷◌, ◌++◌, length, take, codes, Some, inl, inr, ◌⊎◌, refl, ap, sym, subst, ◌∙◌, arith}
+use Rattle.std.proofs.Common.{◌≡◌, ℕ, List, [], ◌∷◌, ◌++◌, take, codes, Some, inl, inr, ap, sym, subst, ◌∙◌, arith}
 use Rattle.jc_rules.specs.declared.refusal.Refusal.{Refusal}
 use Rattle.jc_rules.specs.Refusals.{refusal_name, refusal_number}
 use Rattle.jc_syntax.specs.Lexemes.{IsTokenEnd}
@@ -7,7 +7,7 @@ use Rattle.jc_syntax.proofs.TokenEndsLemmas.{only_end}
 use Rattle.jc_answers.specs.declared.objects.Member.{Member}
 use Rattle.jc_answers.specs.declared.refusals.Extent.{Extent}
 use Rattle.jc_answers.specs.declared.refusals.Extent.TheVariants.{Token, Escape, Character, Byte}
-use Rattle.jc_answers.specs.JsonTexts.{NamedText, number_member, string_member, text_member}
+use Rattle.jc_answers.specs.JsonTexts.{NamedText, number_member, string_member}
 use Rattle.jc_answers.specs.Parts.{member_of, members_of}
 use Rattle.jc_answers.specs.Refusals.{refused_object, refusal_members, line_behind, column_behind, extent_of, EndsWith, EndsAt, placed_members, IsRefusedText}
 

@@ -1,5 +1,5 @@
 -- Refusals as answers: their names and numbers, and of a text the place in it.
-use Rattle.std.specs.Prelude.{◌≡◌, ℕ, ◌+◌, ◌<◌, ◌≤◌, ◌⊎◌, ◌==◌, nat_le, nat_lt, Bool, not, ◌&&◌, if◌then◌else◌, List, [], ◌∷◌, ◌++◌, length, drop, filter, reverse, take, take_while, codes}
+use Rattle.std.specs.Prelude.{◌≡◌, ℕ, ◌+◌, ◌<◌, ◌≤◌, ◌⊎◌, ◌==◌, nat_le, nat_lt, Bool, not, ◌&&◌, if◌then◌else◌, List, ◌++◌, length, drop, filter, reverse, take, take_while, codes}
 use Rattle.std.specs.List.{prefix_len}
 use Rattle.jc_rules.specs.declared.limits.TheConstants.{MAX_TEXT}
 use Rattle.jc_rules.specs.declared.refusal.Refusal.{Refusal}

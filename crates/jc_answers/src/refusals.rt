@@ -172,11 +172,13 @@ fn refused_with(alloc: Global, members: &[Member<'_>]) -> Result<Vec<u8>, AllocE
 pub fn refused(alloc: Global, refusal: Refusal) -> Result<Vec<u8>, AllocError>
     ensures { IfOk result (λ answer. answer.items ≡ refusal_answer refusal) }
 {
-    let members = [
-        Member::string("name", refusal.name()),
-        Member::number("number", refusal.number() as u64),
-    ];
-    refused_with(alloc, &members)
+    refused_with(
+        alloc,
+        &[
+            Member::string("name", refusal.name()),
+            Member::number("number", refusal.number() as u64),
+        ],
+    )
 }
 
 /// The answer that refuses a text at an offset. The text need not be UTF-8. Of one that is too long any bytes from the
