@@ -2,7 +2,7 @@
 use Rattle.std.proofs.Common.{◌≡◌, ℕ, List, [], ◌∷◌, ◌++◌, Some, codes, ap, ◌∙◌, refl}
 use Rattle.serde.specs.Event.{Log, Logs, map_begins, map_ends, field_key}
 use Rattle.serde.specs.declared.name.Case.TheVariants.{AsIs}
-use Rattle.serde_json.specs.Data.{Data, boolean, number, unsigned, string, Members, member}
+use Rattle.serde_json.specs.Data.{boolean, number, unsigned, string, Members, no_members, member}
 use Rattle.serde_json.specs.Events.{SendsValue, SendsMembers}
 use Rattle.serde_json.specs.Written.{compact_text}
 use Rattle.jc_rules.specs.Context.{Context}
@@ -28,22 +28,25 @@ pub brief_is : (names : List (List ℕ)) (A : State) (shown : Shown) (tree : Con
 unfolding brief_text shown_briefly
 brief_is names A shown tree h text e = e ∙ rw (h.acted, h.left, h.ops, h.queue, h.recv, h.send, h.vars) refl
 
--- a member is sent, and then the others
-ahead : (name : List ℕ) (d : Data) (ms : Members) (old mid end : Log) → SendsMember name d old mid → SendsMembers ms mid end → SendsMembers (member name d ms) old end
-ahead name d ms old mid end m more = (m.0, mid, m.1, m.2, more)
-
 -- the members before the tree are sent, and then the others
 before_others : (names : List (List ℕ)) (shown : Shown) (ms : Members) (old mid end : Log) → SendsBeforeTree names shown old mid → SendsMembers ms mid end
     → SendsMembers (member (codes "acted") (boolean shown.acted) (member (codes "left") (number (unsigned shown.left)) (member (codes "name") (string shown.name.now)
     (member (codes "ops") (ids_data names shown.ops.now) (member (codes "queue") (ids_data names shown.queue.now) (member (codes "recv") (ids_data names shown.recv.now)
     (member (codes "send") (ids_data names shown.send.now) ms))))))) old end
 before_others names shown ms old mid end sent more =
+    let m1 = sent.1 in
     let s2 = sent.2 in
+    let m2 = s2.1 in
     let s3 = s2.2 in
+    let m3 = s3.1 in
     let s4 = s3.2 in
+    let m4 = s4.1 in
     let s5 = s4.2 in
+    let m5 = s5.1 in
     let s6 = s5.2 in
-    ahead _ _ _ old sent.0 end sent.1 (ahead _ _ _ sent.0 s2.0 end s2.1 (ahead _ _ _ s2.0 s3.0 end s3.1 (ahead _ _ _ s3.0 s4.0 end s4.1 (ahead _ _ _ s4.0 s5.0 end s5.1 (ahead _ _ _ s5.0 s6.0 end s6.1 (ahead _ _ _ s6.0 mid end s6.2 more))))))
+    let m6 = s6.1 in
+    let m7 = s6.2 in
+    (m1.0, sent.0, m1.1, m1.2, (m2.0, s2.0, m2.1, m2.2, (m3.0, s3.0, m3.1, m3.2, (m4.0, s4.0, m4.1, m4.2, (m5.0, s5.0, m5.1, m5.2, (m6.0, s6.0, m6.1, m6.2, (m7.0, mid, m7.1, m7.2, more)))))))
 
 -- the members that are sent one by one are one object
 pub shown_sent : (names : List (List ℕ)) (shown : Shown) (tree : Context) (old begun before root named vars end : Log) → Logs old begun (map_begins (Some 9))
@@ -53,11 +56,13 @@ pub shown_sent : (names : List (List ℕ)) (shown : Shown) (tree : Context) (old
     → Logs vars end map_ends → SendsValue (object_of (shown_members names shown tree)) old end
 unfolding shown_members
 shown_sent names shown tree old begun before root named vars end b first m n9 s9 ended =
-    (begun, b, before_others names shown _ begun before end first (ahead (codes "tree") (context_data names tree) _ before root end m (named, vars, n9, s9, ended)))
+    let vars_member = member (codes "vars") (vars_data names (vars_of shown.vars.now.entries)) no_members in
+    (begun, b, before_others names shown (member (codes "tree") (context_data names tree) vars_member) begun before end first (m.0, root, m.1, m.2, (named, vars, n9, s9, ended)))
 
 pub briefly_sent : (names : List (List ℕ)) (shown : Shown) (old begun before named vars end : Log) → Logs old begun (map_begins (Some 8))
     → SendsBeforeTree names shown begun before
     → Logs before named (field_key (codes "vars") AsIs) → SendsValue (vars_data names (vars_of shown.vars.now.entries)) named vars
     → Logs vars end map_ends → SendsValue (object_of (shown_briefly names shown)) old end
 unfolding shown_briefly
-briefly_sent names shown old begun before named vars end b first n8 s8 ended = (begun, b, before_others names shown _ begun before end first (named, vars, n8, s8, ended))
+briefly_sent names shown old begun before named vars end b first n8 s8 ended =
+    (begun, b, before_others names shown (member (codes "vars") (vars_data names (vars_of shown.vars.now.entries)) no_members) begun before end first (named, vars, n8, s8, ended))
