@@ -14,8 +14,7 @@ use Rattle.jc_requests.specs.Asked.{Position}
 use Rattle.jc_answers.specs.JsonTexts.{object_text, array_text}
 use Rattle.jc_answers.specs.Refusals.{refusal_answer}
 use Rattle.jc_replies.specs.ReplyTexts.{without_lf, true_member}
-use Rattle.jc_looks.specs.Positions.{all_events, count_of, number_behind, IsAt, StopsAt}
-use Rattle.jc_looks.specs.Looks.{count_at, unreached_answer}
+use Rattle.jc_listings.specs.Positions.{all_events, count_of, count_at, number_behind, unreached_answer, IsAt, StopsAt}
 
 -- what is asked for in a line, besides: the rules, and the effects
 pub record Details : Type 0 where

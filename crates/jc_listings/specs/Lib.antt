@@ -1,3 +1,4 @@
+pub mod Positions
 pub mod Journals
 pub mod Places
 pub mod WovenTexts

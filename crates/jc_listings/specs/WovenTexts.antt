@@ -6,6 +6,7 @@ use Rattle.jc_rules.specs.Step.{Network}
 use Rattle.jc_printer.specs.Canon.{canon_event}
 use Rattle.jc_scenario.specs.WellFormed.{Scenario}
 use Rattle.jc_json.specs.Json.{tagged_text}
+use Rattle.jc_dump.specs.Lines.{IsNamedStuck}
 use Rattle.jc_network.specs.declared.fault.Stuck.{Stuck}
 use Rattle.jc_choice.specs.declared.end.End.{End}
 use Rattle.jc_choice.specs.declared.end.End.TheVariants.{Finished, LimitReached, StuckAt, NoMemory}
@@ -31,6 +32,14 @@ end_members names name made (StuckAt s) =
     ++ string_member (codes "event") (canon_event names s.event) ++ key_if_any names s.key
     ++ number_member (codes "made") made
     ++ string_member (codes "name") name ++ number_member (codes "stuck") (refusal_number s.refusal)
+-- no woven schedule has such an end
+end_members names name made NoMemory = []
+
+-- where it is an event that is stuck, its replicas have names; and memory was there
+abbrev pub IsNamedEnd : List (List ℕ) → End → Type 0
+IsNamedEnd names (StuckAt s) = IsNamedStuck names s
+IsNamedEnd names NoMemory = ⊥
+IsNamedEnd names end = Unit {0}
 
 -- the ends of replicas, by their names and how many events each made
 abbrev pub end_answers : List (List ℕ) → List (List ℕ) → List ℕ → List End → List (List ℕ)

@@ -3,7 +3,7 @@
 use crate::events::event_behind;
 use jc_answers::ArrayText;
 use jc_journal::{Before, NumberedEvent, event_effects, event_line, stuck_line};
-use jc_looks::{first_network, without_lf};
+use jc_looks::{first_network, unended};
 use jc_network::{Net, StepFault, Stuck};
 use jc_rules::{Event, Rule, Trace};
 use jc_scenario::Scenario;
@@ -68,7 +68,7 @@ fn made_line(
     };
     let rules = rules_asked(rules, details);
     let line = event_line(alloc, new, next, &before, rules, effects.as_ref())?;
-    Ok(without_lf(line))
+    Ok(unended(line))
 }
 
 fn stuck_line_of(
@@ -78,7 +78,7 @@ fn stuck_line_of(
     stuck: &Stuck,
 ) -> Result<Vec<u8>, AllocError> {
     let line = stuck_line(alloc, net, next.number, next.given, stuck)?;
-    Ok(without_lf(line))
+    Ok(unended(line))
 }
 
 impl Networks {

@@ -5,8 +5,10 @@
 mod events;
 mod journals;
 mod places;
+mod positions;
 mod weaving;
 
 pub use journals::{Details, line_behind, lines_between};
 pub use places::places;
+pub use positions::count_of;
 pub use weaving::woven_answer;

@@ -1,5 +1,18 @@
 //! The schedule that a seed gives, and how each replica ended in it.
 
+ghost use Rattle.std.specs.Prelude.{◌≡◌, ◌≤◌, IfOk, All, length};
+ghost use Rattle.jc_rules.specs.declared.limits.TheConstants.{MAX_EVENTS};
+ghost use Rattle.jc_printer.specs.Canon.{AreNamed};
+ghost use Rattle.jc_scenario.specs.Views.{scenario_view};
+ghost use Rattle.jc_scenario.specs.WellFormed.{IsWellFormedScenario};
+ghost use Rattle.jc_rules.specs.Step.{Network as AnyNetwork};
+ghost use Rattle.jc_network.specs.Given.{IsStart};
+ghost use Rattle.jc_choice.specs.declared.end.End.TheVariants.{StuckAt};
+ghost use Rattle.jc_dump.specs.Lines.{IsNamedStuck};
+ghost use Rattle.jc_answers.specs.JsonTexts.{object_text, array_text};
+ghost use Rattle.jc_replies.specs.ReplyTexts.{events_answer};
+ghost use Rattle.jc_listings.specs.WovenTexts.{end_members, end_answers, IsNamedEnd, IsWovenText};
+
 use jc_answers::{ArrayText, Member, object_text};
 use jc_choice::End;
 use jc_json::tagged_text;
@@ -11,7 +24,10 @@ use jc_weave::weave;
 use std::alloc::{AllocError, Global};
 
 /// A list of the texts of events.
-fn events_answer(alloc: Global, names: &[Text], events: &[Event]) -> Result<Vec<u8>, AllocError> {
+fn events_answer(alloc: Global, names: &[Text], events: &[Event]) -> Result<Vec<u8>, AllocError>
+    requires { All (λ e. AreNamed e (length names.now)) events.now }
+    ensures { IfOk result (λ answer. answer.items ≡ events_answer names.now events.now) }
+{
     let mut all = ArrayText::new(alloc)?;
     for event in events {
         let text = print_event(alloc, names, event)?;
@@ -27,7 +43,11 @@ fn stuck_end(
     name: &str,
     made: u64,
     stuck: &Stuck,
-) -> Result<Vec<u8>, AllocError> {
+) -> Result<Vec<u8>, AllocError>
+    requires { IsNamedStuck names.now stuck.now }
+    ensures { IfOk result (λ answer. answer.items
+        ≡ object_text (end_members names.now name.now made (StuckAt stuck.now))) }
+{
     let event = print_event(alloc, names, &stuck.event)?;
     let key = match &stuck.key {
         Some(key) => Some(tagged_text(alloc, names, key)?),
@@ -58,12 +78,15 @@ fn end_answer(
     name: &str,
     made: u64,
     end: &End,
-) -> Result<Vec<u8>, AllocError> {
+) -> Result<Vec<u8>, AllocError>
+    requires { IsNamedEnd names.now end.now }
+    ensures { IfOk result (λ answer. answer.items ≡ object_text (end_members names.now name.now made end.now)) }
+{
     let word = match end {
         End::Finished => "finished",
         End::LimitReached => "limit",
         End::StuckAt(stuck) => return stuck_end(alloc, names, name, made, stuck),
-        End::NoMemory => return Err(AllocError),
+        End::NoMemory => unreachable!(),
     };
     object_text(
         alloc,
@@ -81,7 +104,12 @@ fn ends_answer(
     names: &[Text],
     made: &[u64],
     ends: &[End],
-) -> Result<Vec<u8>, AllocError> {
+) -> Result<Vec<u8>, AllocError>
+    requires each { (length ends.now ≡ length names.now) × (length made.now ≡ length names.now) }
+    requires named { All (IsNamedEnd names.now) ends.now }
+    ensures { IfOk result (λ answer. answer.items
+        ≡ array_text (end_answers names.now names.now made.now ends.now)) }
+{
     let mut all = ArrayText::new(alloc)?;
     for p in 0..ends.len() {
         let end = end_answer(alloc, names, names[p].as_str(), made[p], &ends[p])?;
@@ -96,7 +124,12 @@ pub fn woven_answer(
     scenario: &Scenario,
     seed: u64,
     limit: u64,
-) -> Result<Vec<u8>, AllocError> {
+) -> Result<Vec<u8>, AllocError>
+    requires formed { IsWellFormedScenario (scenario_view scenario.now) }
+    requires starts { (start : AnyNetwork) × IsStart (scenario_view scenario.now) start }
+    requires few { limit ≤ MAX_EVENTS }
+    ensures { IfOk result (λ answer. IsWovenText (scenario_view scenario.now) seed limit answer.items) }
+{
     let Ok(woven) = weave(alloc, scenario, seed, limit) else {
         return Err(AllocError);
     };

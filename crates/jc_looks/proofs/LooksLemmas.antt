@@ -1,5 +1,5 @@
 -- Of `Looks`: lists of views, and what is shown of a network's replica.
-use Rattle.std.proofs.Common.{◌≡◌, ℕ, zero, suc, ◌+◌, ◌<◌, ◌≤◌, List, [], ◌∷◌, ◌++◌, length, take, get_or, slice_get, Some, refl, sym, ap, subst, ◌∙◌, arith}
+use Rattle.std.proofs.Common.{◌≡◌, ℕ, zero, suc, ◌+◌, ◌<◌, ◌≤◌, List, [], ◌∷◌, ◌++◌, length, take, get_or, slice_get, Option, Some, inr, refl, sym, ap, subst, ◌∙◌, arith}
 use Rattle.std.proofs.lemmas.List.{take_all}
 use Rattle.std.proofs.lemmas.Option.{slice_get-get_or, same_Some}
 use Rattle.jc_rules.specs.Refused.{Cause}
@@ -13,35 +13,40 @@ use Rattle.jc_network.specs.Steps.{HasReplica}
 use Rattle.jc_cursor.specs.Evaluates.{Evaluates, IsEvalRefused}
 use Rattle.jc_answers.specs.declared.arrays.ArrayText.{ArrayText}
 use Rattle.jc_answers.specs.Parts.{HasItems}
-use Rattle.jc_replies.proofs.ShownLemmas.{with_items}
-use Rattle.jc_looks.specs.Looks.{view_answer, view_answers, no_rows, Gives, OfReplica, no_value_answer}
+use Rattle.jc_dump.specs.Dump.{brief_text}
+use Rattle.jc_looks.specs.declared.fault.LookFault.{LookFault}
+use Rattle.jc_looks.specs.declared.fault.LookFault.TheVariants as F
+use Rattle.jc_looks.specs.declared.looks.Look.{Look}
+use Rattle.jc_looks.specs.declared.looks.Look.TheVariants as L
+use Rattle.jc_looks.specs.LookFaults.{IsRefusedBy}
+use Rattle.jc_looks.specs.Looks.{texts_from, view_text, state_text, no_rows, Gives, OfReplica, no_value_answer, ShowsValue, Shows, IsWithin}
 
--- ---- lists of views
+-- ---- lists of texts
 
-next_view : (names : List (List ℕ)) (n p : ℕ) (states : List State) (A : State) → slice_get states p ≡ Some A → view_answers n names (take (suc p) states) ≡ view_answers n names (take p states) ++ view_answer names (name_at names (n + p)) A ∷ []
-next_view names n p [] A e = let no : slice_get {X = State} [] p ≡ Some A = e in cc
-next_view names n zero (B ∷ states) A e =
-    let same : B ≡ A = cc in
-    let number : n ≡ n + 0 = omega arith in
-    λ i. view_answer names (name_at names (number i)) (same i) ∷ []
-next_view names n (suc p) (B ∷ states) A e =
-    let number : suc n + p ≡ n + suc p = omega arith in
-    ap (λ ts. view_answer names (name_at names n) B ∷ ts) (next_view names (suc n) p states A e ∙ ap (λ k. view_answers (suc n) names (take p states) ++ view_answer names (name_at names k) A ∷ []) number)
+module _ (text : List (List ℕ) → List ℕ → State → List ℕ) (names : List (List ℕ)) where
+  next_text : (n p : ℕ) (states : List State) (A : State) → slice_get states p ≡ Some A → texts_from text n names (take (suc p) states) ≡ texts_from text n names (take p states) ++ text names (name_at names (n + p)) A ∷ []
+  next_text n p [] A e = let no : slice_get {X = State} [] p ≡ Some A = e in cc
+  next_text n zero (B ∷ states) A e =
+      let same : B ≡ A = cc in
+      let number : n ≡ n + 0 = omega arith in
+      λ i. text names (name_at names (number i)) (same i) ∷ []
+  next_text n (suc p) (B ∷ states) A e =
+      let number : suc n + p ≡ n + suc p = omega arith in
+      ap (λ ts. text names (name_at names n) B ∷ ts) (next_text (suc n) p states A e ∙ ap (λ k. texts_from text (suc n) names (take p states) ++ text names (name_at names k) A ∷ []) number)
 
-views_more : (names : List (List ℕ)) (states : List State) (p : ℕ) (text : List ℕ) → p < length states → ((A : State) → slice_get states p ≡ Some A → text ≡ view_answer names (name_at names p) A) → view_answers 0 names (take p states) ++ text ∷ [] ≡ view_answers 0 names (take (p + 1) states)
-views_more names states p text lt h =
-    let there = slice_get-get_or states p (start []) lt in
-    let A = get_or states p (start []) in
-    let one : p + 1 ≡ suc p = omega arith in
-    let number : 0 + p ≡ p = omega arith in
-    ap (λ t. view_answers 0 names (take p states) ++ t ∷ []) (h A there) ∙ ap (λ k. view_answers 0 names (take p states) ++ view_answer names (name_at names k) A ∷ []) (sym number) ∙ sym (next_view names 0 p states A there) ∙ ap (λ m. view_answers 0 names (take m states)) (sym one)
+  texts_more : (states : List State) (p : ℕ) (found : List ℕ) → p < length states → ((A : State) → slice_get states p ≡ Some A → found ≡ text names (name_at names p) A) → texts_from text 0 names (take p states) ++ found ∷ [] ≡ texts_from text 0 names (take (p + 1) states)
+  texts_more states p found lt h =
+      let there = slice_get-get_or states p (start []) lt in
+      let A = get_or states p (start []) in
+      let one : p + 1 ≡ suc p = omega arith in
+      let number : 0 + p ≡ p = omega arith in
+      ap (λ t. texts_from text 0 names (take p states) ++ t ∷ []) (h A there) ∙ ap (λ k. texts_from text 0 names (take p states) ++ text names (name_at names k) A ∷ []) (sym number) ∙ sym (next_text 0 p states A there) ∙ ap (λ m. texts_from text 0 names (take m states)) (sym one)
 
-pub more_views : (names : List (List ℕ)) (states : List State) (p : ℕ) (a : ArrayText) (text : List ℕ) → p < length states → ((A : State) → slice_get states p ≡ Some A → text ≡ view_answer names (name_at names p) A) → HasItems a (view_answers 0 names (take p states) ++ text ∷ []) → HasItems a (view_answers 0 names (take (p + 1) states))
-more_views names states p a text lt is h =
-    with_items a (view_answers 0 names (take p states) ++ text ∷ []) (view_answers 0 names (take (p + 1) states)) (views_more names states p text lt is) h
+  pub more_texts : (states : List State) (p : ℕ) (a : ArrayText) (found : List ℕ) → p < length states → ((A : State) → slice_get states p ≡ Some A → found ≡ text names (name_at names p) A) → HasItems a (texts_from text 0 names (take p states) ++ found ∷ []) → HasItems a (texts_from text 0 names (take (p + 1) states))
+  more_texts states p a found lt is h = subst (HasItems a) (texts_more states p found lt is) h
 
-pub all_views : (names : List (List ℕ)) (states : List State) (n : ℕ) (a : ArrayText) → length states ≤ n → HasItems a (view_answers 0 names (take n states)) → HasItems a (view_answers 0 names states)
-all_views names states n a enough h = with_items a (view_answers 0 names (take n states)) (view_answers 0 names states) (ap (view_answers 0 names) (take_all n states enough)) h
+  pub all_texts : (states : List State) (n : ℕ) (a : ArrayText) → length states ≤ n → HasItems a (texts_from text 0 names (take n states)) → HasItems a (texts_from text 0 names states)
+  all_texts states n a enough h = subst (HasItems a) (ap (texts_from text 0 names) (take_all n states enough)) h
 
 -- ---- values
 
@@ -69,3 +74,24 @@ pub of_each : (states : List State) (p : ℕ) (has : State → Type 0) → p < l
 of_each states p has lt h =
     let there = slice_get-get_or states p (start []) lt in
     (get_or states p (start []), there, h (get_or states p (start [])) there)
+
+-- ---- looks
+
+pub shows_view : (names : List (List ℕ)) (states : List State) (q : Option ℕ) (p : ℕ) (items : List ℕ) → q ≡ Some p → IsWithin (length states) (L.View q) → ((A : State) → slice_get states p ≡ Some A → items ≡ view_text names (name_at names p) A) → Shows names states (L.View q) items
+shows_view names states q p items some within h =
+    subst (λ r. Shows names states (L.View r) items) (sym some) (of_each states p (λ A. items ≡ view_text names (name_at names p) A) (subst (λ r. IsWithin (length states) (L.View r)) some within) h)
+
+pub shows_state : (names : List (List ℕ)) (states : List State) (q : Option ℕ) (p : ℕ) (items : List ℕ) → q ≡ Some p → IsWithin (length states) (L.State q) → ((A : State) → slice_get states p ≡ Some A → items ≡ state_text names (name_at names p) A) → Shows names states (L.State q) items
+shows_state names states q p items some within h =
+    subst (λ r. Shows names states (L.State r) items) (sym some) (of_each states p (λ A. items ≡ state_text names (name_at names p) A) (subst (λ r. IsWithin (length states) (L.State r)) some within) h)
+
+pub shows_brief : (names : List (List ℕ)) (states : List State) (look : Look) (p : ℕ) (items : List ℕ) → look ≡ L.Brief p → IsWithin (length states) look → ((A : State) → slice_get states p ≡ Some A → items ≡ brief_text names (name_at names p) A) → Shows names states look items
+shows_brief names states look p items is within h =
+    subst (λ l. Shows names states l items) (sym is) (of_each states p (λ A. items ≡ brief_text names (name_at names p) A) (subst (IsWithin (length states)) is within) h)
+
+-- where an expression gives nothing, that is shown of it
+pub refused_shows : (text : State → Bound → List ℕ) (names : List (List ℕ)) (states : List State) (p : ℕ) (e : Expr) (fault : LookFault)
+    → IsRefusedBy (λ answer. OfReplica states p (λ A. (why : Cause) × IsEvalRefused A.tree A.vars e why × (answer ≡ no_value_answer names why))) fault
+    → IsRefusedBy (λ answer. OfReplica states p (λ A. ShowsValue (text A) names A e answer)) fault
+refused_shows text names states p e (F.Refused answer) h = (h.0, h.1, inr h.2)
+refused_shows text names states p e F.Memory h = tt

@@ -1,3 +1,2 @@
-pub mod Positions
 pub mod LookFaults
 pub mod Looks

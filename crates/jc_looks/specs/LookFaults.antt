@@ -1,5 +1,5 @@
 -- What a refusal in place of a result means: the contracts of what may be refused cite it.
-use Rattle.std.specs.Prelude.{◌≡◌, ℕ, List, Option, Some, Result, Ok, Err}
+use Rattle.std.specs.Prelude.{◌≡◌, ℕ, List, Option, Some, Result, MatchResult}
 use Rattle.std.specs.declared.alloc.Global.{Global}
 use Rattle.std.specs.declared.vec.Vec.{Vec}
 use Rattle.jc_rules.specs.declared.refusal.Refusal.{Refusal}
@@ -14,8 +14,7 @@ IsRefusedBy refuses F.Memory = Unit {0}
 
 -- what was asked for is there, or it is refused by such an answer
 abbrev pub Finds : {A : Type 0} → (A → Type 0) → (List ℕ → Type 0) → Result A LookFault → Type 0
-Finds found refuses (Ok x) = found x
-Finds found refuses (Err fault) = IsRefusedBy refuses fault
+Finds found refuses result = MatchResult result found (λ fault. IsRefusedBy refuses fault)
 
 -- such an answer is given, be it a refusal or not
 abbrev pub GivesAnswer : (List ℕ → Type 0) → Result (Vec ℕ Global) LookFault → Type 0

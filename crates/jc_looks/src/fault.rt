@@ -1,11 +1,11 @@
 //! Why nothing is shown, and the texts of refusals.
 
-ghost use Rattle.std.specs.Prelude.{◌≡◌, ◌++◌, IfOk};
+ghost use Rattle.std.specs.Prelude.{◌≡◌, ◌++◌, codes, IfOk};
 ghost use Rattle.jc_answers.specs.Parts.{member_of};
-ghost use Rattle.jc_answers.specs.JsonTexts.{object_text};
+ghost use Rattle.jc_answers.specs.JsonTexts.{text_member, object_text};
 ghost use Rattle.jc_answers.specs.Refusals.{refused_object, refusal_members, refusal_answer};
-ghost use Rattle.jc_replies.specs.ReplyTexts.{without_lf, true_member};
 ghost use Rattle.jc_looks.specs.LookFaults.{IsRefusedBy, IsRefusedAt};
+ghost use Rattle.jc_looks.specs.Looks.{unended};
 
 use jc_answers::{Member, object_text, refused, refused_text};
 use jc_rules::Refusal;
@@ -58,8 +58,8 @@ impl LookFault {
 }
 
 /// A line without its LF.
-pub fn without_lf(line: Vec<u8>) -> Vec<u8>
-    ensures { result.items ≡ without_lf line.items }
+pub fn unended(line: Vec<u8>) -> Vec<u8>
+    ensures { result.items ≡ unended line.items }
 {
     let mut text = line;
     text.pop();
@@ -105,7 +105,7 @@ pub fn refused_with(
 
 /// An object with one member, which is true.
 pub fn flag(alloc: Global, name: &str) -> Result<Vec<u8>, AllocError>
-    ensures { IfOk result (λ answer. answer.items ≡ object_text (true_member name.now)) }
+    ensures { IfOk result (λ answer. answer.items ≡ object_text (text_member name.now (codes "true"))) }
 {
     object_text(alloc, &[Member::text(name, b"true".as_slice())])
 }

@@ -7,11 +7,10 @@ ghost use Rattle.jc_syntax.specs.Trees.{expr_of};
 ghost use Rattle.jc_cursor.specs.Bounds.{bound_of};
 ghost use Rattle.jc_dump.specs.Dump.{bound_text, brief_text};
 ghost use Rattle.jc_answers.specs.JsonTexts.{array_text};
-ghost use Rattle.jc_replies.specs.ReplyTexts.{state_answer, state_answers};
 ghost use Rattle.jc_looks.specs.LookFaults.{GivesAnswer};
-ghost use Rattle.jc_looks.specs.Looks.{OfReplica, ShowsValue, Shows, IsWithin, view_answer, view_answers, viewed};
+ghost use Rattle.jc_looks.specs.Looks.{OfReplica, ShowsValue, Shows, IsWithin, view_text, state_text, texts_from, viewed};
 
-use crate::fault::{LookFault, without_lf};
+use crate::fault::{LookFault, unended};
 use crate::values::value_of;
 use jc_answers::ArrayText;
 use jc_cursor::Bound;
@@ -39,10 +38,10 @@ pub enum Look {
 fn view_of(alloc: Global, net: &Net, p: u16) -> Result<Vec<u8>, AllocError>
     ensures { IfOk result (λ answer.
         (A : State) → slice_get net.now.history.now.states p ≡ Some A
-        → answer.items ≡ view_answer net.now.names (name_at net.now.names p) A) }
+        → answer.items ≡ view_text net.now.names (name_at net.now.names p) A) }
 {
     match view_replica(alloc, net, p) {
-        Ok(line) => Ok(without_lf(line)),
+        Ok(line) => Ok(unended(line)),
         Err(_) => Err(AllocError),
     }
 }
@@ -50,10 +49,10 @@ fn view_of(alloc: Global, net: &Net, p: u16) -> Result<Vec<u8>, AllocError>
 fn state_of(alloc: Global, net: &Net, p: u16) -> Result<Vec<u8>, AllocError>
     ensures { IfOk result (λ answer.
         (A : State) → slice_get net.now.history.now.states p ≡ Some A
-        → answer.items ≡ state_answer net.now.names (name_at net.now.names p) A) }
+        → answer.items ≡ state_text net.now.names (name_at net.now.names p) A) }
 {
     match dump_replica(alloc, net, p) {
-        Ok(line) => Ok(without_lf(line.into_bytes())),
+        Ok(line) => Ok(unended(line.into_bytes())),
         Err(_) => Err(AllocError),
     }
 }
@@ -72,7 +71,7 @@ fn brief_of(alloc: Global, net: &Net, p: u16) -> Result<Vec<u8>, AllocError>
 /// The views of all replicas.
 fn views(alloc: Global, net: &Net) -> Result<Vec<u8>, AllocError>
     ensures { IfOk result (λ answer. answer.items
-        ≡ array_text (view_answers 0 net.now.names net.now.history.now.states)) }
+        ≡ array_text (texts_from view_text 0 net.now.names net.now.history.now.states)) }
 {
     let mut all = ArrayText::new(alloc)?;
     let count = net.names().len() as u16;
@@ -86,7 +85,7 @@ fn views(alloc: Global, net: &Net) -> Result<Vec<u8>, AllocError>
 /// The states of all replicas.
 fn states(alloc: Global, net: &Net) -> Result<Vec<u8>, AllocError>
     ensures { IfOk result (λ answer. answer.items
-        ≡ array_text (state_answers 0 net.now.names net.now.history.now.states)) }
+        ≡ array_text (texts_from state_text 0 net.now.names net.now.history.now.states)) }
 {
     let mut all = ArrayText::new(alloc)?;
     let count = net.names().len() as u16;
@@ -95,6 +94,28 @@ fn states(alloc: Global, net: &Net) -> Result<Vec<u8>, AllocError>
         all.push(state.as_slice())?;
     }
     all.end()
+}
+
+/// The view of one replica, or of each.
+fn views_of(alloc: Global, net: &Net, p: Option<u16>) -> Result<Vec<u8>, AllocError>
+    requires { IsWithin (length net.now.history.now.states) (Look.View p) }
+    ensures { IfOk result (λ answer. Shows net.now.names net.now.history.now.states (Look.View p) answer.items) }
+{
+    match p {
+        Some(p) => view_of(alloc, net, p),
+        None => views(alloc, net),
+    }
+}
+
+/// The state of one replica, or of each.
+fn states_of(alloc: Global, net: &Net, p: Option<u16>) -> Result<Vec<u8>, AllocError>
+    requires { IsWithin (length net.now.history.now.states) (Look.State p) }
+    ensures { IfOk result (λ answer. Shows net.now.names net.now.history.now.states (Look.State p) answer.items) }
+{
+    match p {
+        Some(p) => state_of(alloc, net, p),
+        None => states(alloc, net),
+    }
 }
 
 fn bound_answer(alloc: Global, net: &Net, bound: &Bound) -> Result<Vec<u8>, AllocError>
@@ -114,7 +135,7 @@ fn viewed(alloc: Global, net: &Net, p: u16, bound: &Bound) -> Result<Vec<u8>, Al
         return bound_answer(alloc, net, bound);
     };
     match view_place(alloc, net, p, cursor) {
-        Ok(line) => Ok(without_lf(line)),
+        Ok(line) => Ok(unended(line)),
         Err(_) => Err(AllocError),
     }
 }
@@ -155,10 +176,8 @@ pub fn shown(alloc: Global, net: &Net, look: &Look) -> Result<Vec<u8>, LookFault
     ensures { GivesAnswer (Shows net.now.names net.now.history.now.states look.now) result }
 {
     match look {
-        Look::View(None) => Ok(views(alloc, net)?),
-        Look::View(Some(p)) => Ok(view_of(alloc, net, *p)?),
-        Look::State(None) => Ok(states(alloc, net)?),
-        Look::State(Some(p)) => Ok(state_of(alloc, net, *p)?),
+        Look::View(p) => Ok(views_of(alloc, net, *p)?),
+        Look::State(p) => Ok(states_of(alloc, net, *p)?),
         Look::Brief(p) => Ok(brief_of(alloc, net, *p)?),
         Look::ViewPlace(p, expression) => place_shown(alloc, net, *p, expression),
         Look::Eval(p, expression) => value_shown(alloc, net, *p, expression),

@@ -10,7 +10,7 @@ ghost use Rattle.jc_looks.specs.LookFaults.{Finds};
 ghost use Rattle.jc_looks.specs.Looks.{Gives, OfReplica, no_value_answer};
 
 use crate::fault::{LookFault, refused_with};
-use jc_answers::Member;
+use jc_answers::{Member, refused};
 use jc_cursor::{Bound, EvalFault, eval_in_map};
 use jc_json::tagged_text;
 use jc_network::Net;
@@ -36,18 +36,17 @@ fn no_value(alloc: Global, names: &[Text], fault: &EvalFault) -> Result<Vec<u8>,
     ensures { IfOk result (λ answer. (why : Cause) × (eval_cause_of fault.now ≡ Some why)
         × (answer.items ≡ no_value_answer names.now why)) }
 {
-    let refusal = match fault {
-        EvalFault::NoSuchNode(key) => return no_node(alloc, names, key),
-        EvalFault::UnboundVariable => Refusal::UnboundVariable,
-        EvalFault::GetOnHead => Refusal::GetOnHead,
-        EvalFault::NotACursor => Refusal::NotACursor,
-        EvalFault::PastEnd => Refusal::PastEnd,
-        EvalFault::NoMap => Refusal::NoMap,
-        EvalFault::NoRegister => Refusal::NoRegister,
-        EvalFault::TooDeep => Refusal::TooDeep,
-        EvalFault::Memory => return Err(AllocError),
-    };
-    refused_with(alloc, Member::absent(), refusal, Member::absent())
+    match fault {
+        EvalFault::NoSuchNode(key) => no_node(alloc, names, key),
+        EvalFault::UnboundVariable => refused(alloc, Refusal::UnboundVariable),
+        EvalFault::GetOnHead => refused(alloc, Refusal::GetOnHead),
+        EvalFault::NotACursor => refused(alloc, Refusal::NotACursor),
+        EvalFault::PastEnd => refused(alloc, Refusal::PastEnd),
+        EvalFault::NoMap => refused(alloc, Refusal::NoMap),
+        EvalFault::NoRegister => refused(alloc, Refusal::NoRegister),
+        EvalFault::TooDeep => refused(alloc, Refusal::TooDeep),
+        EvalFault::Memory => Err(AllocError),
+    }
 }
 
 /// What the expression gives at a replica of the network. Where it gives nothing it is refused.

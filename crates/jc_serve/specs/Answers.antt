@@ -37,11 +37,12 @@ use Rattle.jc_answers.specs.Refusals.{refusal_answer, IsRefusedText}
 use Rattle.jc_replies.specs.ReplyTexts.{IsAnswer, true_member, move_answer}
 use Rattle.jc_replies.specs.AnswerOf.{event_text}
 use Rattle.jc_looks.specs.declared.looks.Look.{Look}
-use Rattle.jc_looks.specs.Looks.{IsBadLook, IsBadExpression, AsksLook, Shows, AnswersLook, Gives, no_value_answer, background}
-use Rattle.jc_looks.specs.Positions.{count_of, IsAt}
+use Rattle.jc_looks.specs.Looks.{Shows, Gives, no_value_answer}
 use Rattle.jc_listings.specs.Journals.{Details, AnswersJournal, AnswersEvent}
 use Rattle.jc_listings.specs.Places.{IsPlaces}
+use Rattle.jc_listings.specs.Positions.{count_of, background, IsAt}
 use Rattle.jc_listings.specs.WovenTexts.{IsWovenText}
+use Rattle.jc_serve.specs.Asking.{IsBadLook, IsBadExpression, AsksLook, AnswersLook}
 use Rattle.jc_serve.specs.Marks.{Mark, of_session, operation, place, Served, moved_to, with_mark, session_in, after_session, RunsTo, RunsBack}
 use Rattle.jc_serve.specs.Subjects.{Subject, no_scenario, stuck_given, served, GivenStop, IsFaultAnswer, given_stuck_answer}
 

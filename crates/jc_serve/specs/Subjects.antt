@@ -15,7 +15,7 @@ use Rattle.jc_answers.specs.JsonTexts.{NamedText, number_member, text_member, ob
 use Rattle.jc_answers.specs.Refusals.{refused_object, refusal_members, IsRefusedText}
 use Rattle.jc_listings.specs.Journals.{stuck_line_behind}
 use Rattle.jc_serve.specs.Marks.{Served, new_served}
-use Rattle.jc_looks.specs.Positions.{StopsAt}
+use Rattle.jc_listings.specs.Positions.{StopsAt}
 
 -- A given event that is stuck: how many are made before it, and the network to which they lead.
 pub record GivenStop (s : Scenario) : Type 0 where

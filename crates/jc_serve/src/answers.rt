@@ -1,5 +1,6 @@
 //! The answers to requests.
 
+use crate::asking::look_of;
 use crate::served::Served;
 use crate::subjects::{Subject, fault_answer};
 use crate::texts::{counted, journal, quit_answer, quoted};
@@ -7,7 +8,7 @@ use jc_answers::refused;
 use jc_debug::GotoFault;
 use jc_journal::{Before, NumberedEvent, event_effects, event_line};
 use jc_listings::{Details, line_behind, places, woven_answer};
-use jc_looks::{Look, LookFault, flag, given_network, look_of, shown, without_lf};
+use jc_looks::{Look, LookFault, flag, given_network, shown, unended};
 use jc_replies::answer_of;
 use jc_requests::{Asked, Position};
 use jc_rules::{Refusal, Version};
@@ -110,7 +111,7 @@ impl Served {
         };
         let rules = if details.trace { self.here.trace() } else { None };
         let line = event_line(alloc, self.here.net(), &numbered, &before, rules, effects.as_ref())?;
-        Ok(without_lf(line))
+        Ok(unended(line))
     }
 
     /// The line of the event that leads to position n of the schedule, behind 0.

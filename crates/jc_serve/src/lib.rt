@@ -2,6 +2,7 @@
 #![tactic(auto)]
 
 mod answers;
+mod asking;
 mod marks;
 mod runs;
 mod served;

@@ -1,12 +1,13 @@
 //! A session with a scenario: two debuggers of it, and breakpoints. What changes it is here, beside runs.
 
+use crate::asking::{expression_at, replica_named};
 use crate::marks::{Mark, clear_mark, set_mark};
 use jc_answers::{ArrayText, Member, object_text, refused};
 use jc_cursor::Bound;
 use jc_debug::{Break, Debugger};
 use jc_dump::cursor_text;
 use jc_json::id_text;
-use jc_looks::{LookFault, expression_at, replica_named, value_of};
+use jc_looks::{LookFault, value_of};
 use jc_rules::{Id, Refusal, Text};
 use jc_scenario::Scenario;
 use jc_session::{Reply, Request, reply_to, rule_of};

@@ -1,13 +1,11 @@
 //! A scenario of which a given event is stuck: there is no session, but what is before that event can be looked at.
 
+use crate::asking::{expression_at, look_of, replica_named};
 use crate::texts::{journal, quoted, quit_answer};
 use jc_answers::Member;
 use jc_journal::stuck_line;
-use jc_listings::{Details, line_behind, places};
-use jc_looks::{
-    Look, LookFault, count_of, expression_at, flag, given_network, look_of, refused_with,
-    replica_named, shown, without_lf,
-};
+use jc_listings::{Details, count_of, line_behind, places};
+use jc_looks::{Look, LookFault, flag, given_network, refused_with, shown, unended};
 use jc_network::{Net, Stuck};
 use jc_requests::{Asked, Position};
 use jc_rules::{Refusal, Text};
@@ -29,7 +27,7 @@ impl GivenStop {
     /// The journal's line of the event.
     pub(crate) fn line(&self, alloc: Global) -> Result<Vec<u8>, AllocError> {
         let line = stuck_line(alloc, &self.net, self.count + 1, true, &self.stuck)?;
-        Ok(without_lf(line))
+        Ok(unended(line))
     }
 
     /// That a given event is stuck.

@@ -1,7 +1,7 @@
 //! Texts of answers that several of them have.
 
-use jc_listings::{Details, lines_between};
-use jc_looks::{LookFault, count_of, flag};
+use jc_listings::{Details, count_of, lines_between};
+use jc_looks::{LookFault, flag};
 use jc_printer::push_quoted;
 use jc_requests::Position;
 use jc_rules::Event;

@@ -13,8 +13,8 @@ eval_in_map-requires c = chained_of c.args.net.now.history.now.states c.args.p c
 pub returns-in-Ok : goal.returns-in-Ok
 returns-in-Ok c = gives_in c.args.net.now.history.now.states c.args.p c.in-Some.replica.now _ _ (expr_of c.args.expression.now) (bound_of c.in-Ok.bound) _ _ c.in-Some.ensures.some c.tree.ensures c.vars.ensures c.new-trace.ensures c.in-Ok.ensures.ok
 
-pub returns-in-Err : goal.returns-in-Err
-returns-in-Err c =
-    let told = c.in_ok-no_value.ensures in
+pub returns : goal.returns
+returns c =
+    let told = c.in_ok-no_value-in-Err.ensures in
     let refused = subst (λ o. IfSome o (λ why. IsEvalRefused _ (vars_of c.vars.result.now.entries) (expr_of c.args.expression.now) why)) told.1 c.in-Err.ensures.refused in
     refused_in c.args.net.now.history.now.states c.args.p c.in-Some.replica.now _ _ (expr_of c.args.expression.now) _ c.args.net.now.names told.0 _ c.in-Some.ensures.some c.tree.ensures c.vars.ensures c.names.ensures.names refused told.2

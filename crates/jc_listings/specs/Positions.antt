@@ -1,13 +1,15 @@
 -- Positions among all events of a scenario, the given ones first. How many events lead to a position is its count.
-use Rattle.std.specs.Prelude.{◌≡◌, ℕ, ◌+◌, ◌-◌, ◌≤◌, ◌<◌, nat_le, nat_lt, if◌then◌else◌, Bool, true, false, List, ◌++◌, length, take, slice_get, Option, Some, None, Result, Ok, Err}
+use Rattle.std.specs.Prelude.{◌≡◌, ℕ, ◌+◌, ◌-◌, ◌≤◌, ◌<◌, nat_le, nat_lt, if◌then◌else◌, Bool, true, false, List, [], ◌++◌, length, take, slice_get, Option, Some, None, Result, Ok, Err}
 use Rattle.jc_rules.specs.declared.operation.Event.{Event}
 use Rattle.jc_rules.specs.declared.refusal.Refusal.{Refusal}
 use Rattle.jc_rules.specs.declared.refusal.Refusal.TheVariants.{AtStart, PastSchedule}
 use Rattle.jc_rules.specs.Refused.{Cause, IsStuckIn}
+use Rattle.jc_rules.specs.State.{State}
 use Rattle.jc_rules.specs.Step.{Network, AfterIn}
 use Rattle.jc_scenario.specs.WellFormed.{Scenario}
 use Rattle.jc_network.specs.Given.{before_given}
 use Rattle.jc_requests.specs.Asked.{Position, after, before}
+use Rattle.jc_replies.specs.ReplyTexts.{Background, stuck_member, move_answer}
 
 -- the given events, and then those of the schedule as it is now
 abbrev pub all_events : Scenario → List Event → List Event
@@ -34,3 +36,21 @@ pub record StopsAt (s : Scenario) (schedule : List Event) (count : ℕ) (network
   pub is_at : IsAt s schedule count network
   pub is : slice_get (all_events s schedule) count ≡ Some event
   pub stuck : IsStuckIn network event why
+
+-- ---- at a position
+
+-- the count of a position, or of this one where none is asked for
+abbrev pub count_at : Scenario → List Event → ℕ → Option Position → Result ℕ Refusal
+count_at s schedule position None = Ok (length s.given + position)
+count_at s schedule position (Some at) = count_of s schedule at
+
+-- what an answer shows of a scenario with this schedule, beside the states of its replicas
+abbrev pub background : Scenario → List Event → List State → Background
+background s schedule states =
+    record { names = s.names; given = s.given; schedule = schedule; states = states }
+
+-- where an event on the way to a position is stuck: what a move there would be answered
+abbrev pub unreached_answer : Scenario → List Event → ℕ → Network → Cause → Event → List ℕ
+unreached_answer s schedule count network why event =
+    let B = background s schedule network.states in
+    move_answer B (count - length s.given) [] (stuck_member B (count - length s.given) why event)

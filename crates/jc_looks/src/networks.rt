@@ -1,35 +1,14 @@
-//! Positions as counts of all events of a scenario, the given ones first.
+//! Networks before the start of a scenario.
 
-ghost use Rattle.std.specs.Prelude.{◌≡◌, ◌≤◌, List, length, take, IfOk};
-ghost use Rattle.jc_rules.specs.declared.operation.Event.{Event as AnyEvent};
+ghost use Rattle.std.specs.Prelude.{◌≡◌, ◌≤◌, length, take, IfOk};
 ghost use Rattle.jc_rules.specs.Step.{Network as AnyNetwork, AfterIn};
-ghost use Rattle.jc_scenario.specs.WellFormed.{Scenario as AnyScenario, IsWellFormedScenario};
+ghost use Rattle.jc_scenario.specs.WellFormed.{IsWellFormedScenario};
 ghost use Rattle.jc_scenario.specs.Views.{scenario_view};
 ghost use Rattle.jc_network.specs.Given.{before_given, IsBeforeGiven};
-ghost use Rattle.jc_requests.specs.Views.{position_view};
-ghost use Rattle.jc_looks.specs.Positions.{count_of};
 
 use jc_network::Net;
-use jc_requests::Position;
-use jc_rules::Refusal;
 use jc_scenario::{Scenario, copy_names, copy_scripts};
 use std::alloc::{AllocError, Global};
-
-/// How many events lead to a position, or why there is no such position: of so many that are given, and of a schedule
-/// of this length.
-pub fn count_of(given: u64, length: u64, position: Position) -> Result<u64, Refusal>
-    ensures { (s : AnyScenario) (schedule : List AnyEvent)
-        → length s.given ≡ given
-        → length schedule ≡ length
-        → result ≡ count_of s schedule (position_view position) }
-{
-    match position {
-        Position::After(n) if n <= length => Ok(given + n),
-        Position::After(_) => Err(Refusal::PastSchedule),
-        Position::Before(k) if k <= given => Ok(given - k),
-        Position::Before(_) => Err(Refusal::AtStart),
-    }
-}
 
 /// The network before the events of a scenario.
 pub fn first_network(alloc: Global, scenario: &Scenario) -> Result<Net, AllocError>

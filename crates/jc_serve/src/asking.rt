@@ -5,10 +5,9 @@ ghost use Rattle.jc_rules.specs.declared.limits.TheConstants.{MAX_REPLICAS};
 ghost use Rattle.jc_session.specs.Answers.{IsNamed};
 ghost use Rattle.jc_requests.specs.Views.{asked_view, word_view};
 ghost use Rattle.jc_looks.specs.LookFaults.{Finds};
-ghost use Rattle.jc_looks.specs.Looks.{IsOneOrEach, IsExpressionAt, IsStrangeAnswer, IsBadName, IsBadExpression, IsBadLook, IsFoundLook};
+ghost use Rattle.jc_serve.specs.Asking.{IsOneOrEach, IsExpressionAt, IsStrangeAnswer, IsBadName, IsBadExpression, IsBadLook, IsFoundLook};
 
-use crate::fault::LookFault;
-use crate::looks::Look;
+use jc_looks::{Look, LookFault};
 use jc_parser::parse_expr;
 use jc_requests::{Asked, Position};
 use jc_rules::{Refusal, Text};
@@ -17,7 +16,7 @@ use jc_syntax::Expr;
 use std::alloc::Global;
 
 /// The number of the replica with the name.
-pub fn replica_named(alloc: Global, names: &[Text], name: &[u8]) -> Result<u16, LookFault>
+pub(crate) fn replica_named(alloc: Global, names: &[Text], name: &[u8]) -> Result<u16, LookFault>
     requires { length names.now ≤ MAX_REPLICAS }
     ensures { Finds (IsNamed names.now name.now) (IsStrangeAnswer names.now name.now) result }
 {
@@ -43,7 +42,7 @@ fn one_or_each(
 }
 
 /// The replica with the name, and the expression that the text is. The first of these that is none is refused.
-pub fn expression_at(
+pub(crate) fn expression_at(
     alloc: Global,
     names: &[Text],
     name: &[u8],
@@ -66,7 +65,7 @@ pub fn expression_at(
 
 /// What a request asks to be shown, and at which position, if it asks for something that a look shows. A name that no
 /// replica has is refused, and then a text that is no expression.
-pub fn look_of(
+pub(crate) fn look_of(
     alloc: Global,
     names: &[Text],
     request: Asked<'_>,
