@@ -8,7 +8,7 @@ use Rattle.jc_rules.specs.State.{State, Bound, start}
 use Rattle.jc_rules.specs.Context.{Context}
 use Rattle.jc_rules.specs.Syntax.{Expr}
 use Rattle.jc_rules.specs.Trace.{Rows}
-use Rattle.jc_replica.specs.ReplicaHistory.{ReplicaHistory}
+use Rattle.jc_replica.specs.ReplicaHistory.{ReplicaHistory, no_rows}
 use Rattle.jc_network.specs.Steps.{HasReplica}
 use Rattle.jc_cursor.specs.Evaluates.{Evaluates, IsEvalRefused}
 use Rattle.jc_answers.specs.declared.arrays.ArrayText.{ArrayText}
@@ -18,8 +18,8 @@ use Rattle.jc_looks.specs.declared.fault.LookFault.{LookFault}
 use Rattle.jc_looks.specs.declared.fault.LookFault.TheVariants as F
 use Rattle.jc_looks.specs.declared.looks.Look.{Look}
 use Rattle.jc_looks.specs.declared.looks.Look.TheVariants as L
-use Rattle.jc_looks.specs.LookFaults.{IsRefusedBy}
-use Rattle.jc_looks.specs.Looks.{texts_from, view_text, state_text, no_rows, Gives, OfReplica, no_value_answer, ShowsValue, Shows, IsWithin}
+use Rattle.jc_looks.specs.LookFaults.{RefusesBy}
+use Rattle.jc_looks.specs.Looks.{texts_from, view_text, state_text, Gives, OfReplica, no_value_answer, ShowsValue, ShowsLook, IsWithin}
 
 -- ---- lists of texts
 
@@ -77,21 +77,21 @@ of_each states p has lt h =
 
 -- ---- looks
 
-pub shows_view : (names : List (List ℕ)) (states : List State) (q : Option ℕ) (p : ℕ) (items : List ℕ) → q ≡ Some p → IsWithin (length states) (L.View q) → ((A : State) → slice_get states p ≡ Some A → items ≡ view_text names (name_at names p) A) → Shows names states (L.View q) items
+pub shows_view : (names : List (List ℕ)) (states : List State) (q : Option ℕ) (p : ℕ) (items : List ℕ) → q ≡ Some p → IsWithin (length states) (L.View q) → ((A : State) → slice_get states p ≡ Some A → items ≡ view_text names (name_at names p) A) → ShowsLook names states (L.View q) items
 shows_view names states q p items some within h =
-    subst (λ r. Shows names states (L.View r) items) (sym some) (of_each states p (λ A. items ≡ view_text names (name_at names p) A) (subst (λ r. IsWithin (length states) (L.View r)) some within) h)
+    subst (λ r. ShowsLook names states (L.View r) items) (sym some) (of_each states p (λ A. items ≡ view_text names (name_at names p) A) (subst (λ r. IsWithin (length states) (L.View r)) some within) h)
 
-pub shows_state : (names : List (List ℕ)) (states : List State) (q : Option ℕ) (p : ℕ) (items : List ℕ) → q ≡ Some p → IsWithin (length states) (L.State q) → ((A : State) → slice_get states p ≡ Some A → items ≡ state_text names (name_at names p) A) → Shows names states (L.State q) items
+pub shows_state : (names : List (List ℕ)) (states : List State) (q : Option ℕ) (p : ℕ) (items : List ℕ) → q ≡ Some p → IsWithin (length states) (L.State q) → ((A : State) → slice_get states p ≡ Some A → items ≡ state_text names (name_at names p) A) → ShowsLook names states (L.State q) items
 shows_state names states q p items some within h =
-    subst (λ r. Shows names states (L.State r) items) (sym some) (of_each states p (λ A. items ≡ state_text names (name_at names p) A) (subst (λ r. IsWithin (length states) (L.State r)) some within) h)
+    subst (λ r. ShowsLook names states (L.State r) items) (sym some) (of_each states p (λ A. items ≡ state_text names (name_at names p) A) (subst (λ r. IsWithin (length states) (L.State r)) some within) h)
 
-pub shows_brief : (names : List (List ℕ)) (states : List State) (look : Look) (p : ℕ) (items : List ℕ) → look ≡ L.Brief p → IsWithin (length states) look → ((A : State) → slice_get states p ≡ Some A → items ≡ brief_text names (name_at names p) A) → Shows names states look items
+pub shows_brief : (names : List (List ℕ)) (states : List State) (look : Look) (p : ℕ) (items : List ℕ) → look ≡ L.Brief p → IsWithin (length states) look → ((A : State) → slice_get states p ≡ Some A → items ≡ brief_text names (name_at names p) A) → ShowsLook names states look items
 shows_brief names states look p items is within h =
-    subst (λ l. Shows names states l items) (sym is) (of_each states p (λ A. items ≡ brief_text names (name_at names p) A) (subst (IsWithin (length states)) is within) h)
+    subst (λ l. ShowsLook names states l items) (sym is) (of_each states p (λ A. items ≡ brief_text names (name_at names p) A) (subst (IsWithin (length states)) is within) h)
 
 -- where an expression gives nothing, that is shown of it
 pub refused_shows : (text : State → Bound → List ℕ) (names : List (List ℕ)) (states : List State) (p : ℕ) (e : Expr) (fault : LookFault)
-    → IsRefusedBy (λ answer. OfReplica states p (λ A. (why : Cause) × IsEvalRefused A.tree A.vars e why × (answer ≡ no_value_answer names why))) fault
-    → IsRefusedBy (λ answer. OfReplica states p (λ A. ShowsValue (text A) names A e answer)) fault
+    → RefusesBy (λ answer. OfReplica states p (λ A. (why : Cause) × IsEvalRefused A.tree A.vars e why × (answer ≡ no_value_answer names why))) fault
+    → RefusesBy (λ answer. OfReplica states p (λ A. ShowsValue (text A) names A e answer)) fault
 refused_shows text names states p e (F.Refused answer) h = (h.0, h.1, inr h.2)
 refused_shows text names states p e F.Memory h = tt

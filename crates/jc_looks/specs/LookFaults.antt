@@ -8,17 +8,17 @@ use Rattle.jc_looks.specs.declared.fault.LookFault.{LookFault}
 use Rattle.jc_looks.specs.declared.fault.LookFault.TheVariants as F
 
 -- where it is a refusal, its answer is one of these
-abbrev pub IsRefusedBy : (List ℕ → Type 0) → LookFault → Type 0
-IsRefusedBy refuses (F.Refused answer) = refuses answer.items
-IsRefusedBy refuses F.Memory = Unit {0}
+abbrev pub RefusesBy : (List ℕ → Type 0) → LookFault → Type 0
+RefusesBy refuses (F.Refused answer) = refuses answer.items
+RefusesBy refuses F.Memory = Unit {0}
 
 -- what was asked for is there, or it is refused by such an answer
 abbrev pub Finds : {A : Type 0} → (A → Type 0) → (List ℕ → Type 0) → Result A LookFault → Type 0
-Finds found refuses result = MatchResult result found (λ fault. IsRefusedBy refuses fault)
+Finds found refuses result = MatchResult result found (λ fault. RefusesBy refuses fault)
 
 -- such an answer is given, be it a refusal or not
-abbrev pub GivesAnswer : (List ℕ → Type 0) → Result (Vec ℕ Global) LookFault → Type 0
-GivesAnswer answers result = Finds (λ answer. answers answer.items) answers result
+abbrev pub AnswersBy : (List ℕ → Type 0) → Result (Vec ℕ Global) LookFault → Type 0
+AnswersBy answers result = Finds (λ answer. answers answer.items) answers result
 
 -- The answer refuses a text, where there is a refusal and its offset.
 pub record IsRefusedAt (text : List ℕ) (refusal : Option Refusal) (place : Option ℕ) (answer : List ℕ) : Type 0 where

@@ -7,6 +7,7 @@ use Rattle.jc_rules.specs.State.{State, Bound, ACursor, Names, Pairs}
 use Rattle.jc_rules.specs.Syntax.{Expr}
 use Rattle.jc_rules.specs.Trace.{Rows}
 use Rattle.jc_syntax.specs.Trees.{expr_of}
+use Rattle.jc_replica.specs.ReplicaHistory.{no_rows}
 use Rattle.jc_json.specs.Json.{tagged_text}
 use Rattle.jc_cursor.specs.Evaluates.{Evaluates, IsEvalRefused}
 use Rattle.jc_dump.specs.Dump.{dump_line, bound_text, brief_text}
@@ -39,9 +40,6 @@ texts_from text p names (A ∷ states) = text names (name_at names p) A ∷ text
 
 -- ---- values of expressions
 
-abbrev pub no_rows : Rows
-no_rows = record { rows = []; depth = 0 }
-
 -- the expression gives this in the state
 abbrev pub Gives : State → Expr → Bound → Type 0
 Gives A e b = (rows : Rows) × Evaluates A.tree A.vars e b no_rows rows
@@ -56,10 +54,10 @@ abbrev pub no_value_answer : List (List ℕ) → Cause → List ℕ
 no_value_answer names why = refused_object (missing_key names why ++ refusal_members (refusal_of why))
 
 -- What is shown of a value by `view`: what is at a cursor, or else the value as `eval` shows it.
-abbrev pub viewed : List (List ℕ) → List ℕ → State → Bound → List ℕ
-viewed names name A (ACursor cursor) = place_text names name A cursor
-viewed names name A (Names keys) = bound_text names (Names keys)
-viewed names name A (Pairs pairs) = bound_text names (Pairs pairs)
+abbrev pub viewed_text : List (List ℕ) → List ℕ → State → Bound → List ℕ
+viewed_text names name A (ACursor cursor) = place_text names name A cursor
+viewed_text names name A (Names keys) = bound_text names (Names keys)
+viewed_text names name A (Pairs pairs) = bound_text names (Pairs pairs)
 
 -- What is shown of an expression in a state: a text of what it gives, or why it gives nothing.
 abbrev pub ShowsValue : (Bound → List ℕ) → List (List ℕ) → State → Expr → List ℕ → Type 0
@@ -74,17 +72,17 @@ abbrev pub OfReplica : List State → ℕ → (State → Type 0) → Type 0
 OfReplica states p has = (A : State) × (slice_get states p ≡ Some A) × has A
 
 -- What a look shows of the states of the replicas with these names.
-abbrev pub Shows : List (List ℕ) → List State → Look → List ℕ → Type 0
-Shows names states (L.View None) answer = answer ≡ array_text (texts_from view_text 0 names states)
-Shows names states (L.View (Some p)) answer =
+abbrev pub ShowsLook : List (List ℕ) → List State → Look → List ℕ → Type 0
+ShowsLook names states (L.View None) answer = answer ≡ array_text (texts_from view_text 0 names states)
+ShowsLook names states (L.View (Some p)) answer =
     OfReplica states p (λ A. answer ≡ view_text names (name_at names p) A)
-Shows names states (L.ViewPlace p e) answer =
-    OfReplica states p (λ A. ShowsValue (viewed names (name_at names p) A) names A (expr_of e) answer)
-Shows names states (L.State None) answer = answer ≡ array_text (texts_from state_text 0 names states)
-Shows names states (L.State (Some p)) answer =
+ShowsLook names states (L.ViewPlace p e) answer =
+    OfReplica states p (λ A. ShowsValue (viewed_text names (name_at names p) A) names A (expr_of e) answer)
+ShowsLook names states (L.State None) answer = answer ≡ array_text (texts_from state_text 0 names states)
+ShowsLook names states (L.State (Some p)) answer =
     OfReplica states p (λ A. answer ≡ state_text names (name_at names p) A)
-Shows names states (L.Brief p) answer = OfReplica states p (λ A. answer ≡ brief_text names (name_at names p) A)
-Shows names states (L.Eval p e) answer =
+ShowsLook names states (L.Brief p) answer = OfReplica states p (λ A. answer ≡ brief_text names (name_at names p) A)
+ShowsLook names states (L.Eval p e) answer =
     OfReplica states p (λ A. ShowsValue (bound_text names) names A (expr_of e) answer)
 
 -- the replicas of a look are among so many

@@ -4,7 +4,7 @@ ghost use Rattle.std.specs.Prelude.{◌≡◌, ◌++◌, codes, IfOk};
 ghost use Rattle.jc_answers.specs.Parts.{member_of};
 ghost use Rattle.jc_answers.specs.JsonTexts.{text_member, object_text};
 ghost use Rattle.jc_answers.specs.Refusals.{refused_object, refusal_members, refusal_answer};
-ghost use Rattle.jc_looks.specs.LookFaults.{IsRefusedBy, IsRefusedAt};
+ghost use Rattle.jc_looks.specs.LookFaults.{RefusesBy, IsRefusedAt};
 ghost use Rattle.jc_looks.specs.Looks.{unended};
 
 use jc_answers::{Member, object_text, refused, refused_text};
@@ -33,7 +33,7 @@ impl From<AllocError> for LookFault {
 impl LookFault {
     /// The refusal without a place.
     pub fn of(alloc: Global, refusal: Refusal) -> Self
-        ensures { IsRefusedBy (λ answer. answer ≡ refusal_answer refusal) result }
+        ensures { RefusesBy (λ answer. answer ≡ refusal_answer refusal) result }
     {
         match refused(alloc, refusal) {
             Ok(answer) => LookFault::Refused(answer),
@@ -48,7 +48,7 @@ impl LookFault {
         refusal: Option<Refusal>,
         place: Option<usize>,
     ) -> Self
-        ensures { IsRefusedBy (IsRefusedAt text.now refusal place) result }
+        ensures { RefusesBy (IsRefusedAt text.now refusal place) result }
     {
         match refused_at(alloc, text, refusal, place) {
             Ok(answer) => LookFault::Refused(answer),

@@ -7,8 +7,8 @@ ghost use Rattle.jc_syntax.specs.Trees.{expr_of};
 ghost use Rattle.jc_cursor.specs.Bounds.{bound_of};
 ghost use Rattle.jc_dump.specs.Dump.{bound_text, brief_text};
 ghost use Rattle.jc_answers.specs.JsonTexts.{array_text};
-ghost use Rattle.jc_looks.specs.LookFaults.{GivesAnswer};
-ghost use Rattle.jc_looks.specs.Looks.{OfReplica, ShowsValue, Shows, IsWithin, view_text, state_text, texts_from, viewed};
+ghost use Rattle.jc_looks.specs.LookFaults.{AnswersBy};
+ghost use Rattle.jc_looks.specs.Looks.{OfReplica, ShowsValue, ShowsLook, IsWithin, view_text, state_text, texts_from, viewed_text};
 
 use crate::fault::{LookFault, unended};
 use crate::values::value_of;
@@ -99,7 +99,7 @@ fn states(alloc: Global, net: &Net) -> Result<Vec<u8>, AllocError>
 /// The view of one replica, or of each.
 fn views_of(alloc: Global, net: &Net, p: Option<u16>) -> Result<Vec<u8>, AllocError>
     requires { IsWithin (length net.now.history.now.states) (Look.View p) }
-    ensures { IfOk result (λ answer. Shows net.now.names net.now.history.now.states (Look.View p) answer.items) }
+    ensures { IfOk result (λ answer. ShowsLook net.now.names net.now.history.now.states (Look.View p) answer.items) }
 {
     match p {
         Some(p) => view_of(alloc, net, p),
@@ -110,7 +110,7 @@ fn views_of(alloc: Global, net: &Net, p: Option<u16>) -> Result<Vec<u8>, AllocEr
 /// The state of one replica, or of each.
 fn states_of(alloc: Global, net: &Net, p: Option<u16>) -> Result<Vec<u8>, AllocError>
     requires { IsWithin (length net.now.history.now.states) (Look.State p) }
-    ensures { IfOk result (λ answer. Shows net.now.names net.now.history.now.states (Look.State p) answer.items) }
+    ensures { IfOk result (λ answer. ShowsLook net.now.names net.now.history.now.states (Look.State p) answer.items) }
 {
     match p {
         Some(p) => state_of(alloc, net, p),
@@ -129,7 +129,7 @@ fn bound_answer(alloc: Global, net: &Net, bound: &Bound) -> Result<Vec<u8>, Allo
 fn viewed(alloc: Global, net: &Net, p: u16, bound: &Bound) -> Result<Vec<u8>, AllocError>
     ensures { IfOk result (λ answer.
         (A : State) → slice_get net.now.history.now.states p ≡ Some A
-        → answer.items ≡ viewed net.now.names (name_at net.now.names p) A (bound_of bound.now)) }
+        → answer.items ≡ viewed_text net.now.names (name_at net.now.names p) A (bound_of bound.now)) }
 {
     let Bound::Cursor(cursor) = bound else {
         return bound_answer(alloc, net, bound);
@@ -147,8 +147,8 @@ fn place_shown(
     expression: &Expr,
 ) -> Result<Vec<u8>, LookFault>
     requires { p < length net.now.history.now.states }
-    ensures { GivesAnswer (λ answer. OfReplica net.now.history.now.states p (λ A.
-        ShowsValue (viewed net.now.names (name_at net.now.names p) A) net.now.names A (expr_of expression.now) answer))
+    ensures { AnswersBy (λ answer. OfReplica net.now.history.now.states p (λ A.
+        ShowsValue (viewed_text net.now.names (name_at net.now.names p) A) net.now.names A (expr_of expression.now) answer))
         result }
 {
     let bound = value_of(alloc, net, p, expression)?;
@@ -162,7 +162,7 @@ fn value_shown(
     expression: &Expr,
 ) -> Result<Vec<u8>, LookFault>
     requires { p < length net.now.history.now.states }
-    ensures { GivesAnswer (λ answer. OfReplica net.now.history.now.states p (λ A.
+    ensures { AnswersBy (λ answer. OfReplica net.now.history.now.states p (λ A.
         ShowsValue (bound_text net.now.names) net.now.names A (expr_of expression.now) answer))
         result }
 {
@@ -173,7 +173,7 @@ fn value_shown(
 /// What a look shows of a network. An expression that gives nothing is refused.
 pub fn shown(alloc: Global, net: &Net, look: &Look) -> Result<Vec<u8>, LookFault>
     requires { IsWithin (length net.now.history.now.states) look.now }
-    ensures { GivesAnswer (Shows net.now.names net.now.history.now.states look.now) result }
+    ensures { AnswersBy (ShowsLook net.now.names net.now.history.now.states look.now) result }
 {
     match look {
         Look::View(p) => Ok(views_of(alloc, net, *p)?),

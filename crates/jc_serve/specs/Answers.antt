@@ -37,7 +37,7 @@ use Rattle.jc_answers.specs.Refusals.{refusal_answer, IsRefusedText}
 use Rattle.jc_replies.specs.ReplyTexts.{IsAnswer, true_member, move_answer}
 use Rattle.jc_replies.specs.AnswerOf.{event_text}
 use Rattle.jc_looks.specs.declared.looks.Look.{Look}
-use Rattle.jc_looks.specs.Looks.{Shows, Gives, no_value_answer}
+use Rattle.jc_looks.specs.Looks.{ShowsLook, Gives, no_value_answer}
 use Rattle.jc_listings.specs.Journals.{Details, AnswersJournal, AnswersEvent}
 use Rattle.jc_listings.specs.Places.{IsPlaces}
 use Rattle.jc_listings.specs.Positions.{count_of, background, IsAt}
@@ -149,7 +149,7 @@ pub data AnswersStuck (text : List ℕ) (s : Scenario) (stop : GivenStop s) : As
       → AnswersStuck text s stop (K.journal rules effects between) answer
   shows : {request : Asked} {look : Look} {answer : List ℕ} (to : IsReached s request)
       → AsksLook s.names request (Some to.at) look
-      → Shows s.names to.network.states look answer
+      → ShowsLook s.names to.network.states look answer
       → AnswersStuck text s stop request answer
   event : {at : Position} {rules effects : Bool} {answer : List ℕ}
       → IsReached s (K.event (Some at) rules effects)

@@ -20,7 +20,7 @@ use Rattle.jc_requests.specs.Views.{at_view}
 use Rattle.jc_answers.specs.Refusals.{refusal_answer, IsRefusedText}
 use Rattle.jc_looks.specs.declared.looks.Look.{Look}
 use Rattle.jc_looks.specs.declared.looks.Look.TheVariants as L
-use Rattle.jc_looks.specs.Looks.{Shows}
+use Rattle.jc_looks.specs.Looks.{ShowsLook}
 use Rattle.jc_listings.specs.Positions.{count_at, unreached_answer, IsAt, StopsAt}
 
 -- ---- what requests ask to be shown
@@ -114,5 +114,5 @@ pub data AnswersLook (s : Scenario) (schedule : List Event) (position : ℕ) (re
       → AsksLook s.names request at look
       → count_at s schedule position at ≡ Ok count
       → IsAt s schedule count network
-      → Shows s.names network.states look answer
+      → ShowsLook s.names network.states look answer
       → AnswersLook s schedule position request answer

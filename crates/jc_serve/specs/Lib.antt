@@ -4,3 +4,4 @@ pub mod Subjects
 pub mod Asking
 pub mod Answers
 pub mod Serving
+pub mod Stopped
