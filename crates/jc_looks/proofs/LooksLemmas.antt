@@ -1,5 +1,5 @@
 -- Of `Looks`: lists of views, and what is shown of a network's replica.
-use Rattle.std.proofs.Common.{◌≡◌, ℕ, zero, suc, ◌+◌, ◌<◌, ◌≤◌, List, [], ◌∷◌, ◌++◌, length, take, get_or, slice_get, Option, Some, inr, refl, sym, ap, subst, ◌∙◌, arith}
+use Rattle.std.proofs.Common.{◌≡◌, ℕ, zero, suc, ◌+◌, ◌<◌, ◌≤◌, List, [], ◌∷◌, ◌++◌, length, take, get_or, slice_get, Option, Some, IfSome, inr, refl, sym, ap, subst, ◌∙◌, arith}
 use Rattle.std.proofs.lemmas.List.{take_all}
 use Rattle.std.proofs.lemmas.Option.{slice_get-get_or, same_Some}
 use Rattle.jc_rules.specs.Refused.{Cause}
@@ -59,13 +59,14 @@ gives_in states p replica tree vars e b old new has tree_is vars_is first h =
     (has.at, has.there, (new, subst (λ r. Evaluates has.at.tree has.at.vars e b r new) first (subst (λ v. Evaluates has.at.tree v e b old new) same_vars (subst (λ t. Evaluates t vars e b old new) same_tree h))))
 
 -- and what they refuse is refused in it
-pub refused_in : (states : List State) (p : ℕ) (replica : ReplicaHistory) (tree : Context) (vars : List (List ℕ × Bound)) (e : Expr) (names all : List (List ℕ)) (why : Cause) (answer : List ℕ)
-    → HasReplica states p replica → tree ≡ replica.history.now.tree → vars ≡ replica.history.now.vars → names ≡ all → IsEvalRefused tree vars e why → answer ≡ no_value_answer names why
+pub refused_in : (states : List State) (p : ℕ) (replica : ReplicaHistory) (tree : Context) (vars : List (List ℕ × Bound)) (e : Expr) (names all : List (List ℕ)) (cause : Option Cause) (why : Cause) (answer : List ℕ)
+    → HasReplica states p replica → tree ≡ replica.history.now.tree → vars ≡ replica.history.now.vars → names ≡ all → IfSome cause (λ due. IsEvalRefused tree vars e due) → cause ≡ Some why → answer ≡ no_value_answer names why
     → OfReplica states p (λ A. (due : Cause) × IsEvalRefused A.tree A.vars e due × (answer ≡ no_value_answer all due))
-refused_in states p replica tree vars e names all why answer has tree_is vars_is same h is =
+refused_in states p replica tree vars e names all cause why answer has tree_is vars_is same h some is =
     let same_tree : tree ≡ has.at.tree = tree_is ∙ ap (λ (S : State). S.tree) has.kept in
     let same_vars : vars ≡ has.at.vars = vars_is ∙ ap (λ (S : State). S.vars) has.kept in
-    (has.at, has.there, (why, subst (λ v. IsEvalRefused has.at.tree v e why) same_vars (subst (λ t. IsEvalRefused t vars e why) same_tree h), is ∙ ap (λ ns. no_value_answer ns why) same))
+    let refused : IsEvalRefused tree vars e why = subst (λ o. IfSome o (λ due. IsEvalRefused tree vars e due)) some h in
+    (has.at, has.there, (why, subst (λ v. IsEvalRefused has.at.tree v e why) same_vars (subst (λ t. IsEvalRefused t vars e why) same_tree refused), is ∙ ap (λ ns. no_value_answer ns why) same))
 
 -- ---- a replica that is there
 

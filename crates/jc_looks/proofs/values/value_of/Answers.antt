@@ -1,8 +1,5 @@
-use Rattle.std.proofs.Common.{IfSome, subst}
-use Rattle.jc_rules.specs.Refused.{Cause}
 use Rattle.jc_syntax.specs.Trees.{expr_of}
-use Rattle.jc_cursor.specs.Bounds.{bound_of, vars_of}
-use Rattle.jc_cursor.specs.Evaluates.{IsEvalRefused}
+use Rattle.jc_cursor.specs.Bounds.{bound_of}
 use Rattle.jc_view.proofs.ReplicaViewsLemmas.{chained_of}
 use Rattle.jc_looks.proofs.LooksLemmas.{gives_in, refused_in}
 use Rattle.jc_looks.proofs.values.value_of.Goals as goal
@@ -16,5 +13,4 @@ returns-in-Ok c = gives_in c.args.net.now.history.now.states c.args.p c.in-Some.
 pub returns : goal.returns
 returns c =
     let told = c.in_ok-no_value-in-Err.ensures in
-    let refused = subst (λ o. IfSome o (λ why. IsEvalRefused _ (vars_of c.vars.result.now.entries) (expr_of c.args.expression.now) why)) told.1 c.in-Err.ensures.refused in
-    refused_in c.args.net.now.history.now.states c.args.p c.in-Some.replica.now _ _ (expr_of c.args.expression.now) _ c.args.net.now.names told.0 _ c.in-Some.ensures.some c.tree.ensures c.vars.ensures c.names.ensures.names refused told.2
+    refused_in c.args.net.now.history.now.states c.args.p c.in-Some.replica.now _ _ (expr_of c.args.expression.now) _ c.args.net.now.names _ told.0 _ c.in-Some.ensures.some c.tree.ensures c.vars.ensures c.names.ensures.names c.in-Err.ensures.refused told.1 told.2
