@@ -15,7 +15,7 @@ from jsoncrdt.oracle.lines import RULES
 # Where bytes come from and go to: the sources and sinks of jc_io, and what std has for them.
 OUTSIDE = re.compile(r"\bjc_io\b|\b(?:Sink|Source|ToWrite|FromRead)\b|\bstd::(?:io|fs|net|os|process|env)\b"
                      r"|\be?print(?:ln)?!")
-WRITING = ("jc_io", "jc_out", "jc_session", "jc_program", "jc_app")
+WRITING = ("jc_io", "jc_out", "jc_session", "jc_requests", "jc_program", "jc_app")
 # The streams and files of the machine.
 MACHINE = re.compile(r"\bstd::fs\b|\b(?:Stdin|Stdout|Stderr|File)\b|\b(?:stdin|stdout|stderr)\(")
 # What waits, or starts what is waited for.
@@ -104,7 +104,7 @@ def tests_apart(texts):
 
 
 def writes_nothing(texts):
-    """No library but the five has to do with what bytes come from or go to. Of the five, jc_app alone knows the streams
+    """No library but the six has to do with what bytes come from or go to. Of the six, jc_app alone knows the streams
     and files of the machine."""
     crates = crates_in(texts)
     names = [name for name in libraries(texts) if name not in WRITING]

@@ -9,8 +9,10 @@ import hashlib
 import html
 import json
 import os
+import pty
 import re
 import shutil
+import subprocess
 import tempfile
 
 import sections
@@ -290,6 +292,15 @@ def asks_once(programs):
             expect(page.data["by"].startswith("program"), page.data["by"])
 
 
+def has_title(programs):
+    """A page is named as its file is, and a scenario of the kit by its folder, too."""
+    for file, title in (("examples/first.jsoncrdt", "first.jsoncrdt"),
+                        ("kit/first-assignment/scenario.jsoncrdt", "first-assignment/scenario.jsoncrdt")):
+        page = Page(programs, [file])
+        expect_same(page.data["title"], title)
+        expect(f"<title>{title} - jsoncrdt</title>" in page.text, page.text[:900])
+
+
 def has_window(programs):
     """A page from a position on begins with what there is then, and tells where it ends."""
     file, size = "examples/insert-behind-deleted.jsoncrdt", 5
@@ -333,6 +344,17 @@ def is_seen(programs):
     expect(told.returncode == 0, (told.stdout + told.stderr).decode())
 
 
+def is_for_a_file(programs):
+    """A page isn't written to a terminal."""
+    ours, theirs = pty.openpty()
+    ended = subprocess.run(["tools/page", "examples/first.jsoncrdt"], stdout=theirs, stderr=subprocess.PIPE,
+                           env={**os.environ, "JSONCRDT": programs.program}, check=False)
+    os.close(theirs)
+    os.close(ours)
+    told = ended.stderr.decode()
+    expect(ended.returncode == 2 and told.count("\n") == 1 and "> page.html" in told, f"{ended}")
+
+
 def run_pages():
     yield from pages_of_all()
     yield "tools/page: odd names and values", is_odd
@@ -340,6 +362,8 @@ def run_pages():
     yield "tools/page: a sentence for each rule and refusal", has_words
     yield "tools/page: which commands it asks", asks_once
     yield "tools/page: the same, whoever is asked", is_one_page
+    yield "tools/page: its title", has_title
     yield "tools/page: --from and --most", has_window
     yield "tools/page: --diff", has_both
+    yield "tools/page: a terminal", is_for_a_file
     yield "tools/page: tests/in_browser", is_seen

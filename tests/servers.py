@@ -412,7 +412,9 @@ const module_ = require("module"), load = module_._load, said = [];
 const editor = {
   window: { showInformationMessage: text => said.push(text) },
   debug: { registerDebugAdapterDescriptorFactory: (type, factory) =>
-    said.push(`${type}: ${factory.createDebugAdapterDescriptor().command}`) },
+    said.push(`${type}: ${factory.createDebugAdapterDescriptor().command}`),
+    registerDebugConfigurationProvider: (type, { resolveDebugConfiguration: resolve }) =>
+      said.push(`${type}: ${resolve(undefined, {}).program} ${resolve(undefined, { type, program: "a" }).program}`) },
   DebugAdapterExecutable: class { constructor(command) { this.command = command; } },
 };
 module_._load = (name, ...rest) => name === "vscode" ? editor
@@ -435,11 +437,29 @@ def starts_server(programs):
     path = os.path.abspath("editors/vscode/client.js")
     there = run(["node", "-e", STUBS, "there", path], programs.program)
     tools = os.path.join(ROOT, "tools")
-    debugger = f"jsoncrdt: {tools}/dap\n"
+    debugger = f"jsoncrdt: {tools}/dap\njsoncrdt: ${{file}} a\n"
     expect_same(there.stdout.decode() or there.stderr.decode(), f"{debugger}{tools}/lsp\nstopped\n")
     if not os.path.exists("editors/vscode/node_modules"):
         said = run(["node", "-e", STUBS, "missing", path], programs.program).stdout.decode()
-        expect(said.startswith(debugger) and "npm install" in said and said.count("\n") == 2, said)
+        expect(said.startswith(debugger) and "npm install" in said and said.count("\n") == 3, said)
+
+
+WAITS = ["a page of", "what is wrong", "a hover on an event", "a hover on a replica", "a definition", "completion",
+         "formatting", "symbols", "a woven schedule", "a launch", "on to a breakpoint", "a step", "a step back",
+         "frames", "a document", "a state", "a watch", "back to the start"]
+
+
+def tells_waits(programs):
+    """dev/waits has a line for each thing that is waited for, but for campaigns, which need Dask."""
+    needed, is_there = OF_BOTH
+    if not is_there(programs):
+        raise NotTried(needed)
+    ended = run(["dev/waits", "--times", "1", "--events", "40", "serve", "page", "lsp", "dap"], programs.program)
+    first, *rest = ended.stdout.decode().splitlines()
+    expect(ended.returncode == 0 and re.match(r"serve: 100 scenarios of 40 events, \d+ a second ", first), f"{ended}")
+    wrong = [what for what, line in zip(WAITS, rest)
+             if not re.fullmatch(rf"{what}\b.*?(?: +\d+)(?: +\d+\.\d){{2}}", line)]
+    expect(not wrong and len(rest) == len(WAITS), f"{wrong} of {rest}")
 
 
 def servers():
@@ -456,5 +476,6 @@ def servers():
             yield message_case(tool, name, row)
     for row in CLIENTS:
         yield client_case(*row)
+    yield "tools: dev/waits", tells_waits
     yield "editors: editors/vscode/package.json", is_well_formed
     yield "editors: editors/vscode/client.js", starts_server

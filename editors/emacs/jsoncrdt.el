@@ -7,6 +7,10 @@
 (require 'lsp-mode)
 (require 'dap-mode)
 
+;; The lsp-treemacs of Debian 12, by which dap-mode shows sessions and variables, reads a variable that Debian's treemacs
+;; hasn't yet.
+(defvar treemacs-text-scale nil)
+
 (defconst jsoncrdt-root
   (expand-file-name "../.." (file-name-directory (file-truename (or load-file-name buffer-file-name))))
   "The repository.")

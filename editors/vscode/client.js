@@ -20,9 +20,16 @@ function library() {
   }
 }
 
+const adapter = { createDebugAdapterDescriptor: () => new vscode.DebugAdapterExecutable(path.join(tools, "dap")) };
+
+// What is debugged where no launch.json says it: the scenario that is open.
+const THIS_FILE = { type: "jsoncrdt", request: "launch", name: "Debug the scenario", program: "${file}",
+  stopOnEntry: true };
+const configurations = { resolveDebugConfiguration: (folder, asked) => asked.type ? asked : THIS_FILE };
+
 exports.activate = context => {
-  const adapter = { createDebugAdapterDescriptor: () => new vscode.DebugAdapterExecutable(path.join(tools, "dap")) };
-  context.subscriptions.push(vscode.debug.registerDebugAdapterDescriptorFactory("jsoncrdt", adapter));
+  context.subscriptions.push(vscode.debug.registerDebugAdapterDescriptorFactory("jsoncrdt", adapter),
+    vscode.debug.registerDebugConfigurationProvider("jsoncrdt", configurations));
   const found = library();
   if (!found) return undefined;
   const servers = { run: server, debug: server }, texts = { documentSelector: [{ language: "jsoncrdt" }] };

@@ -7,6 +7,7 @@
 
 (require 'package)
 (package-initialize)
+(require 'dap-ui)
 
 (defvar root (getenv "ROOT"))
 (defvar passed 0)
@@ -90,9 +91,17 @@
     (check "a watch" "\"buy milk\""
            (gethash "result" (asked "evaluate" (list :expression "doc.get(\"todo\").idx(1).get(\"title\")"
                                                      :context "watch" :frameId frame)))))
+  (test-window)
   (dap-disconnect (dap--cur-session))
   (check "it has ended" t
          (wait-for (lambda () (eq 'terminated (dap--debug-session-state (dap--cur-session)))))))
+
+(defun test-window ()
+  "What the window of values has, which dap-mode opens where it isn't in batch."
+  (dap-ui-locals--refresh)
+  (with-current-buffer dap-ui--locals-buffer
+    (check "a window of values" t
+           (and (string-match-p "Document\\(.\\|\n\\)*Variables\\(.\\|\n\\)*State" (buffer-string)) t))))
 
 (defun member-of (object member)
   (if (hash-table-p object) (gethash (substring (symbol-name member) 1) object) (plist-get object member)))

@@ -6,6 +6,9 @@ const isDiff = runs.length > 1, SIDES = ["A", "B"];
 const { first, given } = runs[0];
 const last = Math.max(...runs.map(run => run.last));
 
+// Whether the page has an event in which its two schedules differ.
+const isParting = isDiff && data.parting >= first && data.parting - first < Math.max(...runs.map(({ end }) => end));
+
 // The position, the run whose details are shown, an operation that is kept in sight, the tab, the replica whose state
 // is shown where that isn't the event's, and the documents that are open where they are many.
 const chosen = { at: last, side: 0, operation: undefined, tab: "event", replica: undefined, open: new Set() };

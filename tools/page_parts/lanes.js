@@ -52,7 +52,7 @@ const isQuiet = event => event.k === "done" || event.n?.length === 0;
 /** The rows: the start, each event, the stuck one, and lines between them. A row that can be gone to has a position. */
 function rowsOf(run) {
   const rows = [{ kind: "start", at: 0 }], begin = run.given - run.first;
-  const parting = data.parting === null ? undefined : data.parting - run.first;
+  const parting = isParting ? data.parting - run.first : undefined;
   const mark = at => {
     if (at > 0 && at === begin) rows.push({ kind: "mark", text: "position 0, the schedule begins" });
     if (at === parting) rows.push({ kind: "mark", text: "the schedules part here" });

@@ -1,6 +1,7 @@
 // The page: the details' tabs, the controls, keys, the address, and print.
 
 const TURN = 700, MANY_REPLICAS = 16;
+const areMany = names.length > MANY_REPLICAS;
 
 // ---- details
 
@@ -99,9 +100,9 @@ function verdict(run) {
 }
 
 function verdictOfBoth(run, other) {
-  const at = data.parting - first, isIn = at >= 0 && at < Math.max(run.end, other.end);
+  const at = data.parting - first;
   const differ = differing([...names.keys()], [run, other], [run.end, other.end]).map(r => names[r]).join(", ");
-  const parting = isIn ? ["the schedules part at ", linkTo(at + 1, (at < run.end ? run : other).calledAt(at + 1))]
+  const parting = isParting ? ["the schedules part at ", linkTo(at + 1, (at < run.end ? run : other).calledAt(at + 1))]
     : ["the schedules don't part in this page"];
   return verdictOf("open", parting, run.more + other.more > 0 ? "; where the page ends " : "; at the end ",
     differ ? `the documents of ${differ} differ` : "all documents are the same");
@@ -258,7 +259,7 @@ document.body.append(
   h("header", {}, h("h1", {}, title, h("small", {}, counts.filter(Boolean).join(" · "))),
     isDiff ? verdictOfBoth(...runs) : verdict(runs[0])),
   controls,
-  h("main", { class: isDiff ? "diff" : names.length > MANY_REPLICAS ? "many" : "" }, lanes.map(lanesSection),
+  h("main", { class: `${isDiff ? "diff" : areMany ? "many" : ""}${areMany ? " dense" : ""}` }, lanes.map(lanesSection),
     documentBodies.map(documentsSection),
     h("section", { class: "details" }, h("div", { class: "head" }, sides, tabs), detailsBody)),
   live, tip, help);

@@ -1,5 +1,5 @@
 -- About Out: texts that an output was given one behind another, and what was written of them. What writes over outputs
--- needs `adds_nothing`, `adds_both`, `adds_same` and `gave_held`.
+-- needs `adds_nothing`, `adds_both`, `adds_same`, `put_adds` and `gave_held`.
 use Rattle.std.proofs.Common.{◌≡◌, ℕ, List, [], ◌++◌, Bool, true, false, refl, ap, sym, subst, ◌∙◌, append_assoc, append-nil}
 use Rattle.jc_io.specs.Written.{Stream, Wrote, WrotePart}
 use Rattle.jc_out.specs.Out.{OutState, GaveBy, GaveText, AddsText}
@@ -63,6 +63,29 @@ broken_adds o text is first before h = broken_by o.is_broken text o.held o.strea
 pub hold_adds : (is_broken : Bool) (text old held : List ℕ) (a : Stream) → is_broken ≡ false → held ≡ old ++ text → (first : Stream) (before : List ℕ) → GaveBy is_broken before old first a → GaveBy is_broken (before ++ text) held first a
 hold_adds true text old held a sound is first before h = cc
 hold_adds false text old held a sound is first before h = subst (λ l. GaveBy false (before ++ text) l first a) (sym is) (held_more before text old first a h)
+
+-- a text was put behind what is held, broken or not
+put_by : (is_broken : Bool) (text old held : List ℕ) (a : Stream) → held ≡ old ++ text → (first : Stream) (before : List ℕ) → GaveBy is_broken before old first a → GaveBy is_broken (before ++ text) held first a
+put_by true text old held a is first before h = part_of_longer first a before text h
+put_by false text old held a is first before h = hold_adds false text old held a refl is first before h
+
+-- nothing is held where all was sent
+empty_by : (is_broken : Bool) (old held : List ℕ) (a : Stream) → (is_broken ≡ false → old ≡ []) → held ≡ [] → (first : Stream) (before : List ℕ) → GaveBy is_broken before old first a → GaveBy is_broken (before ++ []) held first a
+empty_by true old held a none is first before h = part_of_longer first a before [] h
+empty_by false old held a none is first before h =
+    subst (λ t. GaveBy false t held first a) (sym (append-nil before)) (subst (λ l. GaveBy false before l first a) (none refl ∙ sym is) h)
+
+-- what is held is another, and nothing else
+module _ (a b : OutState) (reference : b.reference ≡ a.reference) (stream : b.stream ≡ a.stream) (broken : b.is_broken ≡ a.is_broken) where
+  gave_there : (text : List ℕ) (first : Stream) → GaveBy a.is_broken text b.held first a.stream → GaveText text first b
+  gave_there text first h =
+      subst (λ k. GaveBy k text b.held first b.stream) (sym broken) (subst (λ (o : Stream). GaveBy a.is_broken text b.held first o) (sym stream) h)
+
+  pub put_adds : (text : List ℕ) → b.held ≡ a.held ++ text → AddsText text a b
+  put_adds text is = (reference, λ first before h. gave_there (before ++ text) first (put_by a.is_broken text a.held b.held a.stream is first before h))
+
+  pub empty_adds : (a.is_broken ≡ false → a.held ≡ []) → b.held ≡ [] → AddsText [] a b
+  empty_adds none is = (reference, λ first before h. gave_there (before ++ []) first (empty_by a.is_broken a.held b.held a.stream none is first before h))
 
 -- ---- the beginning and the end
 

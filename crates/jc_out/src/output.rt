@@ -33,7 +33,8 @@ pub fn room(alloc: Global) -> Vec<u8>
 #[derive(Drop)]
 pub struct Out<'a, K> {
     sink: &'a mut K,
-    held: &'a mut Vec<u8>,
+    /// The bytes that aren't sent yet. A text that is put behind them is given too.
+    pub held: &'a mut Vec<u8>,
     is_broken: bool,
 }
 
@@ -94,6 +95,14 @@ impl<'a, K: Sink> Out<'a, K> {
         bytes.len() < FULL && self.held.extend_from_slice(bytes).is_ok()
     }
 
+    /// Writes bytes at once, behind those that are held. After a failed write it does nothing.
+    pub fn pass(&mut self, bytes: &[u8])
+        ensures { AddsText bytes.now (output K.Sink self.old) (output K.Sink self.new) }
+    {
+        self.send();
+        self.write(bytes);
+    }
+
     /// Takes bytes: holds them, or writes them behind those that are held, where they are many or there is no memory to
     /// hold them. After a failed write it does nothing.
     pub fn push(&mut self, bytes: &[u8])
@@ -103,13 +112,28 @@ impl<'a, K: Sink> Out<'a, K> {
             return;
         }
         if self.hold(bytes) {
-            if self.held.len() >= FULL {
-                self.send();
-            }
+            self.send_much();
         } else {
-            self.send();
-            self.write(bytes);
+            self.pass(bytes);
         }
+    }
+
+    /// Sends what is held, where it is much.
+    pub fn send_much(&mut self)
+        ensures { AddsText [] (output K.Sink self.old) (output K.Sink self.new) }
+    {
+        if self.held.len() >= FULL {
+            self.send();
+        }
+    }
+
+    /// Sends what is held, and from now on holds in this room what it is given. After a failed write it sends nothing.
+    pub fn change_room(&mut self, room: Vec<u8>)
+        requires { room.items ≡ [] }
+        ensures { AddsText [] (output K.Sink self.old) (output K.Sink self.new) }
+    {
+        self.send();
+        *self.held = room;
     }
 
     /// The end of a task that has given the first n of its pieces, whatever these are: sends what is held, and returns

@@ -5,6 +5,7 @@ pub mod ReadsScenarioLemmas
 pub mod ViewOutputLemmas
 pub mod CommandCountLemmas
 pub mod ReplicaLinesLemmas
+pub mod RunOutLemmas
 pub mod ViewTextLemmas
 pub mod GivenStuckLemmas
 pub mod JournaledLemmas

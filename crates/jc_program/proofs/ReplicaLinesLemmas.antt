@@ -1,13 +1,13 @@
--- About ReplicaLines: lines of replicas that are written one after the other. `send_lines` uses it.
-use Rattle.std.proofs.Common.{◌≡◌, ℕ, zero, suc, ◌+◌, ◌<◌, List, [], ◌∷◌, ◌++◌, length, take, get_or, slice_get, Some, refl, sym, ◌∙◌, ap, subst, append_assoc, append-nil, arith}
+-- About ReplicaLines: lines of replicas that are added one after the other. `add_lines` uses it.
+use Rattle.std.proofs.Common.{◌≡◌, ℕ, zero, suc, ◌+◌, ◌<◌, List, [], ◌∷◌, ◌++◌, length, take, get_or, slice_get, Some, refl, sym, ◌∙◌, ap, append_assoc, append-nil, arith}
 use Rattle.std.proofs.lemmas.Option.{slice_get-get_or, same_Some}
 use Rattle.jc_rules.specs.ReplicaNames.{name_at}
 use Rattle.jc_rules.specs.State.{State, start}
 use Rattle.jc_dump.specs.Dump.{dump_line}
 use Rattle.jc_dump.specs.Texts.{dumps_from, dumps_text}
 use Rattle.jc_view.specs.Visible.{view_line, views_from, views_text}
-use Rattle.jc_io.specs.Written.{Stream, Wrote, WrotePart}
-use Rattle.jc_io.proofs.WrittenLemmas.{wrote_both, part_after, part_of_longer}
+use Rattle.jc_out.specs.Out.{OutState, AddsText}
+use Rattle.jc_out.proofs.OutLemmas.{adds_both, adds_same}
 use Rattle.jc_session.proofs.TextsListLemmas.{next_dumps}
 use Rattle.jc_program.specs.declared.run.ReplicaLines.{ReplicaLines}
 use Rattle.jc_program.specs.declared.run.ReplicaLines.TheVariants.{Dumps, Documents}
@@ -54,23 +54,14 @@ views_split n (suc k) names (A ∷ network) =
     let later = views_split (suc n) k names network in
     (later.0, ap (λ t. line ++ t) later.1 ∙ sym (append_assoc line (views_from (suc n) names (take k network)) later.0))
 
-lines_split : (lines : ReplicaLines) (k : ℕ) (names : List (List ℕ)) (network : List State) → (rest : List ℕ) × (lines_text lines names network ≡ lines_text lines names (take k network) ++ rest)
+pub lines_split : (lines : ReplicaLines) (k : ℕ) (names : List (List ℕ)) (network : List State) → (rest : List ℕ) × (lines_text lines names network ≡ lines_text lines names (take k network) ++ rest)
 lines_split Dumps k names network = dumps_split 0 k names network
 lines_split Documents k names network = views_split 0 k names network
 
-module _ (lines : ReplicaLines) (names : List (List ℕ)) (network : List State) (p : ℕ) (a b c : Stream) (inside : p < length network) (before : Wrote (lines_text lines names (take p network)) a b) where
-  abbrev here : State
-  here = get_or network p (start [])
-
-  pub lines_go_on : ((A : State) → slice_get network p ≡ Some A → Wrote (replica_line lines names (name_at names p) A) b c) → Wrote (lines_text lines names (take (p + 1) network)) a c
+module _ (lines : ReplicaLines) (names : List (List ℕ)) (network : List State) (p : ℕ) (a b c : OutState) (inside : p < length network) (before : AddsText (lines_text lines names (take p network)) a b) where
+  pub lines_go_on : ((A : State) → slice_get network p ≡ Some A → AddsText (replica_line lines names (name_at names p) A) b c) → AddsText (lines_text lines names (take (p + 1) network)) a c
   lines_go_on next =
+      let A = get_or network p (start []) in
       let there = slice_get-get_or network p (start []) inside in
-      subst (λ t. Wrote t a c) (sym (lines_more lines names p network here there)) (wrote_both a b c (lines_text lines names (take p network)) (replica_line lines names (name_at names p) here) before (next here there))
-
-  -- a line was begun
-  pub lines_begun : ((A : State) → slice_get network p ≡ Some A → WrotePart (replica_line lines names (name_at names p) A) b c) → WrotePart (lines_text lines names network) a c
-  lines_begun next =
-      let there = slice_get-get_or network p (start []) inside in
-      let split = lines_split lines (p + 1) names network in
-      let part = subst (λ t. WrotePart t a c) (sym (lines_more lines names p network here there)) (part_after a b c (lines_text lines names (take p network)) (replica_line lines names (name_at names p) here) before (next here there)) in
-      subst (λ t. WrotePart t a c) (sym split.1) (part_of_longer a c (lines_text lines names (take (p + 1) network)) split.0 part)
+      adds_same a c (lines_text lines names (take p network) ++ replica_line lines names (name_at names p) A) (lines_text lines names (take (p + 1) network)) (sym (lines_more lines names p network A there))
+      (adds_both a b c (lines_text lines names (take p network)) (replica_line lines names (name_at names p) A) before (next A there))

@@ -24,10 +24,11 @@ use Rattle.jc_program.specs.declared.run.ReplicaLines.{ReplicaLines}
 use Rattle.jc_program.specs.declared.run.ReplicaLines.TheVariants.{Dumps, Documents}
 use Rattle.jc_program.specs.ReplicaLines.{lines_text}
 use Rattle.jc_program.specs.PlayResult.{IsRunDue}
-use Rattle.jc_program.specs.ViewOutput.{Begins}
+use Rattle.jc_program.specs.ViewOutput.{Begins, blocks, first_lines, all_lines, IsRunUnfinished}
 use Rattle.jc_program.specs.ViewText.{IsGivenShown, ShowsRun, Shows, IsRefused}
 use Rattle.jc_program.specs.Runs.{Made, GoesBy, EndsAt, Stuck, events_of, events_text, stuck_line, status_of}
 use Rattle.jc_program.specs.Texts.{event_text, counts_text}
+use Rattle.jc_program.proofs.ReplicaLinesLemmas.{lines_split}
 use Rattle.jc_program.proofs.JournalsLemmas.{lines_of, lines_go, after_made, all_led}
 
 -- from a network a schedule is made up to its end or its first stuck event
@@ -140,10 +141,6 @@ module _ (step_or_stuck : StepOrStuck) (led_or_stuck : LedOrStuck) where
         }),
       )
 
-  pub run_due : (trace : Bool) (lines : ReplicaLines) (events : List Event) (s : Scenario) (text : List ℕ) → IsRunDue trace lines events s text → (more : List ℕ) × (status : ℕ) × ShowsRun trace lines events s (text ++ more) status
-  run_due trace lines events s text (inl (start, led, begins)) = run_begun trace lines events s start text led begins
-  run_due trace lines events s text (inr (status, shows)) = ([], status, subst (λ t. ShowsRun trace lines events s t status) (sym (append-nil text)) shows)
-
   -- behind its given events, of which these lines were told
   journal_after : (asked : Asked) (s : Scenario) (last : Network) (made : List Made) (stuck : Option Stuck) (lines : List ℕ) → JournalBy asked true s.names 1 (before_given s) made last lines → EndsAt s.given made last stuck → (more : List ℕ) × (status : ℕ) × Journaled asked s (lines ++ more) status
   journal_after asked s last made (Some x) lines goes ends =
@@ -207,6 +204,39 @@ module _ (step_or_stuck : StepOrStuck) (led_or_stuck : LedOrStuck) where
         | inl (start, led) ↦ run_of trace lines events s start led
         | inr (at, event, why, stuck) ↦ (given_text s.names at why event, 3, inr (given_of s at event why stuck))
       ]
+
+  -- what is there of it without its last texts is the front of a whole text
+  run_front : (trace : Bool) (lines : ReplicaLines) (events : List Event) (s : Scenario) (text : List ℕ) → IsRunUnfinished trace lines events s text → (more : List ℕ) × (status : ℕ) × ShowsRun trace lines events s (text ++ more) status
+  run_front trace lines events s text (inl none) =
+      let whole = run_or_given trace lines events s in
+      (whole.0, whole.1, subst (λ t. ShowsRun trace lines events s (t ++ whole.0) whole.1) (sym none) whole.2)
+  run_front trace lines events s text (inr (start, led, blocks begins)) = run_begun trace lines events s start text led begins
+  run_front trace lines events s _ (inr (start, led, first_lines {text} last stuck n plays inside)) =
+      let split = lines_split lines n s.names last.states in
+      let line = stuck_line s.names stuck in
+      let first = lines_text lines s.names (take n last.states) in (
+        split.0 ++ line,
+        status_of stuck,
+        inl (record {
+          start = start;
+          is_start = led;
+          last = last;
+          stuck = stuck;
+          blocks = text;
+          plays = plays;
+          written = sym (append_assoc (text ++ first) split.0 line) ∙ ap (λ t. t ++ line) (append_assoc text first split.0 ∙ ap (λ t. text ++ t) (sym split.1));
+          ends = refl;
+        }),
+      )
+  run_front trace lines events s _ (inr (start, led, all_lines {text} last stuck plays)) = (
+    stuck_line s.names (Some stuck),
+    status_of (Some stuck),
+    inl (record { start = start; is_start = led; last = last; stuck = Some stuck; blocks = text; plays = plays; written = refl; ends = refl }),
+  )
+
+  pub run_due : (trace : Bool) (lines : ReplicaLines) (events : List Event) (s : Scenario) (text : List ℕ) → IsRunDue trace lines events s text → (more : List ℕ) × (status : ℕ) × ShowsRun trace lines events s (text ++ more) status
+  run_due trace lines events s text (inl (status, shows)) = ([], status, subst (λ t. ShowsRun trace lines events s t status) (sym (append-nil text)) shows)
+  run_due trace lines events s text (inr unfinished) = run_front trace lines events s text unfinished
 
   shown_of : (view : View) (s : Scenario) → (out : List ℕ) × (status : ℕ) × Shows view s out status
   shown_of Check s = (counts_text s, 0, (refl, refl))

@@ -1,7 +1,7 @@
 -- About ThreadRuns: what was told of a recording, or for want of one. The functions `threads` and `execute` use it.
 use Rattle.std.proofs.Common.{◌≡◌, ◌⊎◌, ℕ, ◌+◌, arith, inl, inr, List, [], Option, Some, None, Result, Ok, Err, IfOk, IfErr, OnOk, string_bytes, refl, ap, sym, subst}
 use Rattle.jc_scenario.specs.WellFormed.{Scenario, IsScenario}
-use Rattle.jc_io.specs.Written.{Stream, Wrote, WrotePart, Sent, WrittenInPart}
+use Rattle.jc_io.specs.Written.{Stream, Sent}
 use Rattle.jc_io.proofs.WrittenLemmas.{wrote_none}
 use Rattle.jc_program.specs.Recordings.{IsRecordFault}
 use Rattle.jc_runner.specs.declared.starting.SpawnRefused.{SpawnRefused}

@@ -1,6 +1,7 @@
 -- Of `AnswerOf`: what a request leads to tells its own position, and has an answer.
-use Rattle.std.proofs.Common.{◌≡◌, ℕ, List, length, Option, Some, None, MatchOption, refl, ap, sym, subst, ◌∙◌}
+use Rattle.std.proofs.Common.{◌≡◌, ℕ, List, length, Option, Some, Result, Ok, Err, IfOk, refl, sym, subst}
 use Rattle.std.specs.List.{All}
+use Rattle.std.specs.Result.{MatchResult, IsOkAnd}
 use Rattle.jc_rules.specs.declared.operation.Event.{Event}
 use Rattle.jc_printer.specs.Canon.{AreNamed}
 use Rattle.jc_debug.specs.Invariant.{Seen, session_of}
@@ -65,3 +66,9 @@ gives_served d e q answer given event items all g spelled h = record {
   origin = g.origin;
   all = all_named_after d e q answer all g;
 }
+
+-- a result under `Some`, as `map` gives it
+pub as_some : {T E : Type 0} (r : Result T E) (m : Result (Option T) E) (P : Option T → Type 0) → MatchResult r (λ x. IsOkAnd m (λ o. o ≡ Some x)) (λ e. m ≡ Err e) → IfOk r (λ x. P (Some x)) → IfOk m P
+as_some (Ok x) (Ok o) P is h = subst P (sym is) h
+as_some (Ok x) (Err e) P is h = tt
+as_some (Err e) m P is h = subst (λ (k : _). IfOk k P) (sym is) tt

@@ -1,12 +1,11 @@
 -- Of `ReplyTexts`: lists of states, of events and of rules, and traces.
-use Rattle.std.proofs.Common.{◌≡◌, ℕ, zero, suc, ◌+◌, ◌<◌, ◌≤◌, List, [], ◌∷◌, ◌++◌, length, map, take, get_or, slice_get, Some, codes, refl, sym, ap, subst, ◌∙◌, arith}
+use Rattle.std.proofs.Common.{◌≡◌, ℕ, zero, suc, ◌+◌, ◌<◌, ◌≤◌, List, [], ◌∷◌, ◌++◌, length, map, take, get_or, slice_get, Some, codes, sym, ap, subst, ◌∙◌, arith}
 use Rattle.std.proofs.lemmas.List.{map_more, take_all}
 use Rattle.std.proofs.lemmas.Option.{slice_get-get_or}
 use Rattle.jc_rules.specs.declared.operation.Event.{Event}
 use Rattle.jc_rules.specs.declared.rule.Rule.{Rule}
 use Rattle.jc_rules.specs.ReplicaNames.{name_at}
 use Rattle.jc_rules.specs.State.{State, start}
-use Rattle.jc_printer.specs.Canon.{canon_event, quoted}
 use Rattle.jc_network.specs.NetworkHistory.{NetworkHistory}
 use Rattle.jc_network.specs.Enabled.{AreEnabled, candidates}
 use Rattle.jc_debug.specs.DebuggerState.{MakesEvent}
@@ -19,7 +18,7 @@ use Rattle.jc_session.proofs.ChosenEventsLemmas.{one_enabled}
 use Rattle.jc_answers.specs.declared.arrays.ArrayText.{ArrayText}
 use Rattle.jc_answers.specs.JsonTexts.{object_text}
 use Rattle.jc_answers.specs.Parts.{HasItems}
-use Rattle.jc_replies.specs.ReplyTexts.{state_answer, state_answers, event_texts, events_answer, row_text, true_member, trace_answer, IsAnswer}
+use Rattle.jc_replies.specs.ReplyTexts.{state_answer, state_answers, events_answer, true_member, trace_answer, IsAnswer}
 use Rattle.jc_replies.specs.AnswerOf.{background_of}
 
 -- ---- items

@@ -1,9 +1,8 @@
 -- Of `Asked`: seeds as they are parsed, and what is behind words.
-use Rattle.std.proofs.Common.{◌≡◌, ◌≢◌, ℕ, zero, suc, ◌+◌, ◌<◌, ◌≤◌, ◌^◌, nat_le, nat_lt, ◌==◌, List, [], ◌∷◌, length, get_or, Bool, true, false, not, ◌&&◌, codes, Option, None, Some, Result, Ok, Err, refl, ap, sym, subst, ◌∙◌, arith}
+use Rattle.std.proofs.Common.{◌≡◌, ◌≢◌, ℕ, zero, suc, ◌<◌, ◌^◌, nat_le, nat_lt, ◌==◌, List, [], ◌∷◌, length, get_or, Bool, true, false, not, ◌&&◌, codes, None, Some, option_map, Result, Ok, Err, refl, ap, sym, subst, ◌∙◌, arith}
 use Rattle.std.specs.List.{prefix_len, list_all}
 use Rattle.std.specs.Result.{OkIff, result_ok}
 use Rattle.std.specs.Str.{bytes_eq, all_ascii_digits}
-use Rattle.std.specs.Str.Parse.{digits_value}
 use Rattle.std.proofs.lemmas.Bool.{and_parts}
 use Rattle.std.proofs.lemmas.Bool.Decides.{nat_tests}
 use Rattle.std.proofs.lemmas.Slice.Eq.{bytes_eq-Decides}
@@ -11,7 +10,7 @@ use Rattle.jc_session.specs.Requests.{Word, is_blank_char, words, past, after_wo
 use Rattle.jc_session.specs.Lines.{Line}
 use Rattle.jc_session.specs.Views.{AreAscii}
 use Rattle.jc_session.proofs.RequestsLemmas.{ascii_drop}
-use Rattle.jc_requests.specs.Asked.{before, some_before, after_words, has_seed_form, seed_of, asked_by, asked}
+use Rattle.jc_requests.specs.Asked.{only, before, some_before, after_words, has_seed_form, seed_of, position_in, past_details, pair_of, journal, journal_by, journal_of, asked_by, asked}
 
 -- ---- seeds
 
@@ -69,6 +68,19 @@ ascii_after line h =
 pub some_before_is : (n : ℕ) → n ≢ 0 → some_before (Some n) ≡ Some (before n)
 some_before_is zero ne = absurd (ne refl)
 some_before_is (suc n) ne = refl
+
+-- ---- words
+
+only_one : (ws : List Word) (w : Word) → Some w ≡ only ws → ws ≡ w ∷ []
+only_one [] w e = cc
+only_one (x ∷ []) w e = let same : w ≡ x = cc in ap (λ y. y ∷ []) (sym same)
+only_one (x ∷ y ∷ ws) w e = cc
+
+-- two words behind the options of a journal
+pub journal_between : (ws rest : List Word) (details : Bool × Bool × List Word) (v w : Word) → details ≡ past_details ws → details.2 ≡ v ∷ rest → Some w ≡ only rest → journal_of ws ≡ option_map (λ p. journal details.0 details.1 (Some p)) (pair_of (position_in v) (position_in w))
+journal_between ws rest details v w is behind one =
+    ap (λ (d : Bool × Bool × List Word). journal_by d.0 d.1 d.2) (sym is)
+    ∙ ap (journal_by details.0 details.1) (behind ∙ ap (λ r. v ∷ r) (only_one rest w one))
 
 -- ---- what a line asks for
 

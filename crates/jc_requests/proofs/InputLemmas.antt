@@ -1,5 +1,5 @@
 -- Of `Input`: lines by what is kept of them, texts that are being read, and what was read of a request.
-use Rattle.std.proofs.Common.{◌≡◌, ◌≢◌, ℕ, ◌+◌, ◌<◌, ◌≤◌, nat_le, List, [], ◌∷◌, ◌++◌, length, take, Bool, true, false, if◌then◌else◌, Option, None, Some, IfSome, MatchOption, Result, Ok, Err, IsErrOf, refl, ap, sym, subst, ◌∙◌, arith, length-append, append_assoc, Bor, Vec, Global}
+use Rattle.std.proofs.Common.{◌≡◌, ◌≢◌, ℕ, ◌+◌, ◌<◌, ◌≤◌, nat_le, ◌==◌, ◌⊎◌, inl, inr, List, [], ◌∷◌, ◌++◌, length, take, Bool, true, false, if◌then◌else◌, Option, None, Some, IfSome, MatchOption, Result, Ok, Err, refl, ap, sym, subst, ◌∙◌, arith, length-append, append_assoc, Bor, Vec, Global}
 use Rattle.std.proofs.lemmas.Bool.Decides.{nat_tests}
 use Rattle.std.proofs.lemmas.List.{length-take-le}
 use Rattle.std.proofs.lemmas.Grind.{common_steps}
@@ -8,7 +8,7 @@ use Rattle.std.specs.Io.KnownBytes.{Consumes, IsAtEnd, prepend_known}
 use Rattle.std.proofs.KnownBytes.{Consumes-nil, Consumes-trans}
 use Rattle.jc_io.specs.declared.io.ReadFault.{ReadFault}
 use Rattle.jc_io.specs.Streams.{StaysIfKnown}
-use Rattle.jc_session.specs.Lines.{Line, Lacks, is_within_limit, without_cr, whole_line, last_line}
+use Rattle.jc_session.specs.Lines.{Line, Lacks, without_cr, last_line}
 use Rattle.jc_session.specs.LineReading.{ReadStopsAt}
 use Rattle.jc_session.specs.Views.{line_of_bytes}
 use Rattle.jc_session.proofs.AheadLemmas.{kept_more}
@@ -91,9 +91,9 @@ part_kept old now front count most room r = by_length (nat_le 8388609 (length r.
         omega (arith, size, lt)
 
 -- a failed read: what was read of the text, and what is left
-pub part_stops : {X : Type 0} (r : Result X ReadFault) (old left new : Option (List ℕ)) (ahead ahead_new front : List ℕ) (count size most room : ℕ) → TextPart old (prepend_known ahead left) front count most room → count < size → ahead ≡ [] → ahead_new ≡ [] → StaysIfKnown left new
+pub part_stops : (old left new : Option (List ℕ)) (ahead ahead_new front : List ℕ) (count size most room : ℕ) → TextPart old (prepend_known ahead left) front count most room → count < size → ahead ≡ [] → ahead_new ≡ [] → StaysIfKnown left new
     → (part : List ℕ) × (length part < size) × (ahead_new ≡ []) × (length part ≤ most) × ReadStopsAt old new part
-part_stops r old left new ahead ahead_new front count size most room p lt e f s =
+part_stops old left new ahead ahead_new front count size most room p lt e f s =
     let n = p.count_is in
     let m = p.room_is in
     (p.part, omega (arith, n, lt), f, omega (arith, m), stops_here old left new ahead p.part p.gone e s)
@@ -157,3 +157,76 @@ turn_by (Ok T.End) line P l t = tt
 turn_by (Ok T.TooMany) line P l t = tt
 turn_by (Ok T.CutShort) line P l t = tt
 turn_by (Err e) line P l t = tt
+
+-- ---- how many bytes the next request may have
+
+some_length : (raw : List ℕ) → raw ≢ [] → 0 < length raw
+some_length [] n = absurd (n refl)
+some_length (b ∷ bs) n = omega arith
+
+-- where some may come, so may a request
+pub room_some : (requests bytes room : ℕ) → room ≡ (if requests == 0 then 0 else bytes) → 0 < room → (0 < requests) × (room ≡ bytes)
+room_some requests bytes room e some = by (requests == 0) refl
+  where
+    by : (t : Bool) → (requests == 0) ≡ t → (0 < requests) × (room ≡ bytes)
+    by true t = let none : room ≡ 0 = rw t at e in absurd (omega (arith, none, some))
+    by false t = let all : room ≡ bytes = rw t at e in (grind (arith, nat_tests), all)
+
+pub room_within : (requests bytes room : ℕ) → room ≡ (if requests == 0 then 0 else bytes) → room ≤ bytes
+room_within requests bytes room e = by (requests == 0) refl
+  where
+    by : (t : Bool) → (requests == 0) ≡ t → room ≤ bytes
+    by true t = let none : room ≡ 0 = rw t at e in omega (arith, none)
+    by false t = let all : room ≡ bytes = rw t at e in omega (arith, all)
+
+no_bytes : (raw : List ℕ) → length raw ≡ 0 → raw ≡ []
+no_bytes [] e = refl
+no_bytes (b ∷ bs) e = absurd (omega (arith, e))
+
+-- what was read fills the room
+pub room_full : (requests bytes room : ℕ) (raw : List ℕ) → room ≡ (if requests == 0 then 0 else bytes) → length raw ≡ room → ((length raw ≡ bytes) × (0 < requests)) ⊎ ((requests ≡ 0) × (raw ≡ []))
+room_full requests bytes room raw e full = by (requests == 0) refl
+  where
+    by : (t : Bool) → (requests == 0) ≡ t → ((length raw ≡ bytes) × (0 < requests)) ⊎ ((requests ≡ 0) × (raw ≡ []))
+    by true t = let none : room ≡ 0 = rw t at e in inr (grind (arith, nat_tests), no_bytes raw (full ∙ none))
+    by false t = let all : room ≡ bytes = rw t at e in inl (full ∙ all, grind (arith, nat_tests))
+
+-- ---- the request that was read, and what it took
+
+abbrev pub IsRead : Option (List ℕ) → Option (List ℕ) → ℕ → ℕ → ℕ → ℕ → Turn → Type 0
+IsRead old new bytes more requests fewer turn =
+    (read : List ℕ) × IsTurn new read turn × Consumes old new read × (more + length read ≡ bytes) × (fewer + 1 ≡ requests)
+
+pub line_read : (old mid new : Option (List ℕ)) (raw front : List ℕ) (line : Line) (bytes more requests fewer : ℕ) → Lacks 10 raw → Consumes old mid (raw ++ 10 ∷ []) → front ≡ take 4097 raw → size_of (asked (line_by true front)) ≡ None → new ≡ mid → line ≡ line_by true front → more + length raw + 1 ≡ bytes → fewer + 1 ≡ requests
+    → IsRead old new bytes more requests fewer (says line)
+line_read old mid new raw front line bytes more requests fewer lacks gone e none same is count one = (
+  raw ++ 10 ∷ [],
+  subst (λ (l : Line). IsTurn new (raw ++ 10 ∷ []) (says l)) (sym is) (a_line new raw front e lacks none),
+  subst (λ (o : Option (List ℕ)). Consumes old o (raw ++ 10 ∷ [])) (sym same) gone,
+  let n = length-append raw (10 ∷ []) in omega (arith, n, count),
+  one,
+)
+
+pub text_read : (old mid new : Option (List ℕ)) (raw front text items : List ℕ) (bytes more requests fewer : ℕ) → Lacks 10 raw → Consumes old mid (raw ++ 10 ∷ []) → front ≡ take 4097 raw → size_of (asked (line_by true front)) ≡ Some (length text) → Consumes mid new text → items ≡ kept text → more + length text + length raw + 1 ≡ bytes → fewer + 1 ≡ requests
+    → IsRead old new bytes more requests fewer (brings items)
+text_read old mid new raw front text items bytes more requests fewer lacks gone e size rest is count one = (
+  raw ++ 10 ∷ text,
+  a_text new raw front text items e lacks size is,
+  consumes_behind old mid new raw text gone rest,
+  let n = length_behind raw text in omega (arith, n, count),
+  one,
+)
+
+pub last_line_read : (old new : Option (List ℕ)) (raw front : List ℕ) (bytes more requests fewer : ℕ) → Lacks 10 raw → raw ≢ [] → Consumes old new raw → IsAtEnd new → front ≡ take 4097 raw → size_of (asked (line_by false front)) ≡ None → more + length raw ≡ bytes → fewer + 1 ≡ requests
+    → IsRead old new bytes more requests fewer (says (line_by false front))
+last_line_read old new raw front bytes more requests fewer lacks some gone end e none count one =
+    (raw, a_last_line new raw front e some lacks end none, gone, count, one)
+
+pub last_text_read : (old new : Option (List ℕ)) (raw front items : List ℕ) (bytes more requests fewer : ℕ) → Lacks 10 raw → raw ≢ [] → Consumes old new raw → IsAtEnd new → front ≡ take 4097 raw → items ≡ [] → size_of (asked (line_by false front)) ≡ Some 0 → more + length raw ≡ bytes → fewer + 1 ≡ requests
+    → IsRead old new bytes more requests fewer (brings items)
+last_text_read old new raw front items bytes more requests fewer lacks some gone end e empty none count one =
+    (raw, a_last_text new raw front items e some lacks end empty none, gone, count, one)
+
+-- some bytes of a line may have come
+pub room_for : (requests bytes room more : ℕ) (raw : List ℕ) → room ≡ (if requests == 0 then 0 else bytes) → raw ≢ [] → more + length raw ≡ room → (0 < requests) × (room ≡ bytes)
+room_for requests bytes room more raw e some count = let n = some_length raw some in room_some requests bytes room e (omega (arith, n, count))

@@ -1,5 +1,5 @@
 -- The requests in the bytes of an input: lines, and behind some of them a text.
-use Rattle.std.specs.Prelude.{◌≡◌, ◌≢◌, ℕ, zero, suc, ◌+◌, ◌-◌, ◌<◌, ◌≤◌, ◌⊎◌, List, [], ◌∷◌, ◌++◌, length, take, Option, Some, None}
+use Rattle.std.specs.Prelude.{◌≡◌, ℕ, zero, suc, ◌+◌, ◌-◌, ◌<◌, ◌≤◌, List, [], ◌∷◌, ◌++◌, length, take, Option, Some, None}
 use Rattle.std.specs.Io.KnownBytes.{IsAtEnd}
 use Rattle.jc_rules.specs.declared.limits.TheConstants.{MAX_TEXT}
 use Rattle.jc_session.specs.Lines.{Line, Lacks, whole_line, last_line}

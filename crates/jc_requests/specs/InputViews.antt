@@ -1,5 +1,5 @@
 -- The turns that values in memory represent, and the line that is kept, for the clauses of `Input`.
-use Rattle.std.specs.Prelude.{◌≡◌, ℕ, ◌+◌, List, length, Bool, true, false, Option, Some, None, Result, Ok, Err}
+use Rattle.std.specs.Prelude.{◌≡◌, ℕ, ◌+◌, List, length, Bool, true, false, Option, Some, None, Result, Ok}
 use Rattle.std.specs.Io.KnownBytes.{Consumes}
 use Rattle.jc_io.specs.declared.io.ReadFault.{ReadFault}
 use Rattle.jc_session.specs.Lines.{Line, whole_line, is_within_limit}

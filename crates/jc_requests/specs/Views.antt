@@ -1,5 +1,5 @@
 -- The requests that values in memory represent, for the clause of `asked`.
-use Rattle.std.specs.Prelude.{ℕ, List, Option, Some, None, option_map}
+use Rattle.std.specs.Prelude.{ℕ, List, Option, option_map}
 use Rattle.std.specs.Borrow.{Bor}
 use Rattle.jc_requests.specs.declared.kinds.Position.{Position as AnyPosition}
 use Rattle.jc_requests.specs.declared.kinds.Position.TheVariants as P

@@ -1,6 +1,7 @@
 //! What a line of `serve` asks for, by its words. The command answers what `asked` returns.
 
-ghost use Rattle.std.specs.Prelude.{◌≡◌, [], ◌∷◌, option_map, codes};
+ghost use Rattle.std.specs.Prelude.{◌≡◌, ◌<◌, ◌==◌, [], ◌∷◌, length, position, option_map, IfSome};
+ghost use Rattle.std.specs.List.{list_all};
 ghost use Rattle.jc_session.specs.Requests.{words, after_word, among};
 ghost use Rattle.jc_session.specs.Views.{line_of_bytes, AreAscii};
 ghost use Rattle.jc_syntax.specs.Bytes as B;
@@ -181,20 +182,38 @@ fn is_name_start(byte: u8) -> bool
     byte.is_ascii_alphabetic() || byte == b'_'
 }
 
+fn is_name_byte(byte: u8) -> bool
+    ensures { result ≡ B.is_name_byte byte }
+{
+    is_name_start(byte) || byte.is_ascii_digit()
+}
+
+fn are_name_bytes(word: &[u8]) -> bool
+    ensures { result ≡ list_all B.is_name_byte word.now }
+{
+    word.iter().all(|b| is_name_byte(*b))
+}
+
 /// Whether a word is a letter or `_`, and behind it letters, digits and `_`.
 fn is_name(word: &[u8]) -> bool
     ensures { result ≡ is_name word.now }
 {
-    !word.is_empty()
-        && is_name_start(word[0])
-        && word.iter().all(|b| is_name_start(*b) || b.is_ascii_digit())
+    !word.is_empty() && is_name_start(word[0]) && are_name_bytes(word)
+}
+
+/// Where the first `@` of a word is.
+fn at_sign(word: &[u8]) -> Option<usize>
+    ensures at { result ≡ position (λ b. b == 64) word.now }
+    ensures within { IfSome result (λ at. at < length word.now) }
+{
+    word.iter().position(|b| *b == b'@')
 }
 
 /// The breakpoint for the operation with the identifier that a word is.
 fn break_op(word: &[u8]) -> Option<Asked<'_>>
     ensures { option_map asked_view result ≡ op_in word.now }
 {
-    let at = word.iter().position(|b| *b == b'@')?;
+    let at = at_sign(word)?;
     let counter = number_in(&word[..at])?;
     let name = &word[at + 1..];
     if is_name(name) {

@@ -78,6 +78,28 @@ fn many_bytes_are_sent_at_once(rt: HostRuntime) {
     }
 }
 
+// What is put behind the held bytes by hand is one of them.
+#[test]
+fn bytes_are_put_behind_those_that_are_held(rt: HostRuntime) {
+    let mut sink = Taken::new(rt.alloc());
+    let mut held = room(rt.alloc());
+    let mut out = Out::new(&mut sink, &mut held);
+    out.held
+        .extend_from_slice(b"at ")
+        .expect(&rt, "the bytes that are put behind");
+    out.send_much();
+    holds(&rt, "few are held", out.held.len() == 3);
+    out.pass(b"1\n");
+    holds(&rt, "they went before", out.held.is_empty());
+    out.push(b"at 2\n");
+    out.change_room(room(rt.alloc()));
+    holds(&rt, "what was held is sent", out.held.is_empty());
+    out.push(b"at 3\n");
+    holds(&rt, "the end", out.end());
+    drop(out);
+    has_bytes(&rt, sink.as_slice(), b"at 1\nat 2\nat 3\n");
+}
+
 // The second write is the one that fails, so the first two pieces are one write.
 #[test]
 fn pieces_are_one_write(rt: HostRuntime) {

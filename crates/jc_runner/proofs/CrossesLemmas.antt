@@ -11,6 +11,7 @@ use denote.Ref.{ShrRef}
 use mathlib.Core.List.{[], ◌∷◌}
 use mir.Syntax.{static, ty_unit}
 use Rattle.std.proofs.Crossing.{crosses, Box-send}
+use Rattle.std.proofs.MapsCrossing as maps
 use Rattle.jc_rules.proofs.id_set.IdSet.TheSendSync as id_set
 use Rattle.jc_rules.proofs.operation.Event.TheSendSync as event
 use Rattle.jc_rules.proofs.operation.Op.TheSendSync as op
@@ -49,7 +50,7 @@ pub scenario_field_send : IsSend (scenario_field).row
 scenario_field_send = search (sendable, crosses, parts, cmd_send) depth 20
 
 pub net_send : IsSend net_row
-net_send = search (sendable, crosses, parts, cmd_send) depth 30
+net_send = search (sendable, crosses, maps.crosses, parts, cmd_send) depth 30
 
 pub recorded_send : IsSend recorded_row
 recorded_send = search (sendable, crosses, parts, net_send, scenario_field_send) depth 20

@@ -6,11 +6,12 @@ ghost use Rattle.jc_store_tests.specs.Ready.{IsReady};
 use crate::by_hand::{make_map, put_ids, put_true};
 use crate::keys::{At, Keys, SECOND, THIRD, Tag, text};
 use crate::operations::{FIRST_DELETED, id_of, make_all};
-use jc_cursor::{Bound, EvalFault, eval};
+use jc_cursor::{Bound, EvalFault, eval, eval_in_map};
 use jc_parser::parse_expr;
 use jc_rules::{Key, Tagged, Text, Trace, Value};
 use jc_tree::{TreeStore, is_place};
 use std::alloc::{AllocError, Global};
+use std::collections::BTreeMap;
 use std::process::Abort;
 
 /// What the expression evaluates to.
@@ -148,12 +149,27 @@ fn bound_x<S: TreeStore>(alloc: Global, store: &S) -> Result<(Text, Bound), Allo
     Ok((name, bound))
 }
 
-/// Whether a variable gives what the element has that it is bound to.
-fn of_a_variable<S: TreeStore>(keys: &Keys, store: &S) -> Result<bool, AllocError>
+/// Whether a variable of a list gives what the element has that it is bound to.
+fn of_a_list<S: TreeStore>(keys: &Keys, store: &S) -> Result<bool, AllocError>
     requires { IsChained (S.tree store.now).now }
 {
     let vars = [bound_x(keys.alloc, store)?];
     gives(keys.alloc, store, &vars, "x.values", Want::Value, 4)
+}
+
+/// Whether one of a map does.
+fn of_a_map<S: TreeStore>(keys: &Keys, store: &S) -> Result<bool, AllocError>
+    requires { IsChained (S.tree store.now).now }
+{
+    let Ok(expr) = parse_expr(keys.alloc, "x.values") else {
+        return Err(AllocError);
+    };
+    let (name, bound) = bound_x(keys.alloc, store)?;
+    let mut vars = BTreeMap::new(keys.alloc);
+    vars.insert(name, bound)?;
+    let mut trace = Trace::new(keys.alloc);
+    let outcome = eval_in_map(keys.alloc, store, &vars, &expr, &mut trace);
+    Ok(trace.rows().len() == 4 && is_as(&outcome, Want::Value)?)
 }
 
 /// Whether expressions in a list whose first element is deleted give what they should.
@@ -164,7 +180,7 @@ pub fn in_a_list<S: TreeStore>(keys: &Keys, store: &mut S) -> Result<bool, Alloc
     let is = gives(keys.alloc, store, &[], "doc.idx(1)", Want::Element(3), 6)?
         && gives(keys.alloc, store, &[], "doc.idx(2)", Want::PastEnd, 0)?
         && gives(keys.alloc, store, &[], "doc.idx(0).keys", Want::NoMap, 0)?;
-    Ok(is && of_a_variable(keys, store)?)
+    Ok(is && of_a_list(keys, store)? && of_a_map(keys, store)?)
 }
 
 /// A map of two names, of which one has no identifier any more, and of a register under an element: one name is given.

@@ -1,4 +1,4 @@
-use Rattle.std.proofs.Common.{◌≡◌, ◌≢◌, ℕ, Option, List, Result, Ok, Err, IfOk, IfErr, refl, ap, sym, subst}
+use Rattle.std.proofs.Common.{◌≢◌, ℕ, Option, List, Result, Err, IfOk, IfErr, refl, ap, sym, subst}
 use Rattle.std.proofs.lemmas.Result.{IfErr-at_err}
 use Rattle.jc_parser.specs.declared.fault.ScenarioFault.{ScenarioFault}
 use Rattle.jc_scenario.specs.declared.scenario.Scenario.{Scenario as ScenarioValue}

@@ -1,7 +1,8 @@
-use Rattle.std.proofs.Common.{length, subst}
+use Rattle.std.proofs.Common.{length, codes, subst, ap, ◌∙◌}
 use Rattle.std.proofs.lemmas.Result.{IfOk-weaker}
 use Rattle.jc_debug.specs.declared.fault.RunEnd.{RunEnd}
 use Rattle.jc_debug.specs.Moves.{IsEnd}
+use Rattle.jc_answers.specs.JsonTexts.{text_member}
 use Rattle.jc_replies.specs.AnswerOf.{background_of}
 use Rattle.jc_replies.proofs.MovesLemmas.{ran_break, ran_stuck, ran_end}
 use Rattle.jc_replies.proofs.moves.ran.Goals as goal
@@ -24,5 +25,5 @@ pub returns-in-End : goal.returns-in-End
 returns-in-End c =
     let d = c.args.debugger.now in
     IfOk-weaker c.position_with-in-End.result _ _ (λ answer h outcome is.
-    ran_end (background_of c.args.given.now d) (length d.traces) c.text-end.result c.absent-in-End.result answer.items c.text-end.ensures c.absent-in-End.ensures h outcome
+    ran_end (background_of c.args.given.now d) (length d.traces) c.text-end.result c.absent-in-End.result answer.items (c.text-end.ensures ∙ ap (text_member (codes "end")) c.as_slice.ensures) c.absent-in-End.ensures h outcome
     (subst (λ (e : RunEnd). IsEnd e outcome) c.in-End.is is)) c.position_with-in-End.ensures

@@ -1,4 +1,4 @@
-use Rattle.std.proofs.Common.{◌≡◌, ℕ, List, length, ap, sym, subst, ◌∙◌}
+use Rattle.std.proofs.Common.{ℕ, List, length, ap, sym, subst, ◌∙◌}
 use Rattle.std.proofs.lemmas.Result.{IfOk-weaker}
 use Rattle.std.specs.List.{All}
 use Rattle.jc_rules.specs.declared.operation.Event.{Event}
@@ -31,7 +31,7 @@ returns-in-Went c =
     let w = c.in-Went in
     let at = subst (λ (a : AnyReply). IsHere d a) w.is c.requires.here in
     IfOk-weaker c.position_with.result _ _ (λ answer h r is.
-    went_told c.args.given.now d c.args.text.now w.field-0 c.absent.result c.absent-2.result answer.items at c.absent.ensures c.absent-2.ensures h r (subst (λ (a : AnyReply). IsReply d a r) w.is is)) c.position_with.ensures
+    went_told c.args.given.now d c.args.text.now w.field-0 c.absent.result c.absent-in-Went.result answer.items at c.absent.ensures c.absent-in-Went.ensures h r (subst (λ (a : AnyReply). IsReply d a r) w.is is)) c.position_with.ensures
 
 pub returns-in-Stuck : goal.returns-in-Stuck
 returns-in-Stuck c =
@@ -105,7 +105,7 @@ pub returns-in-Position : goal.returns-in-Position
 returns-in-Position c =
     let d = c.args.debugger.now in
     IfOk-weaker c.position_with-in-Position.result _ _ (λ answer h r is.
-    position_told c.args.given.now d c.args.text.now c.len.result c.absent-in-Position.result c.number-of.result answer.items (c.len.ensures ∙ ap length c.schedule-in-Position.ensures) c.absent-in-Position.ensures c.number-of.ensures h r (subst (λ (a : AnyReply). IsReply d a r) c.in-Position.is is)) c.position_with-in-Position.ensures
+    position_told c.args.given.now d c.args.text.now (length c.schedule-in-Position.result.now) c.absent-in-Position.result c.number-of.result answer.items (ap length c.schedule-in-Position.ensures) c.absent-in-Position.ensures c.number-of.ensures h r (subst (λ (a : AnyReply). IsReply d a r) c.in-Position.is is)) c.position_with-in-Position.ensures
 
 pub returns-in-Compared : goal.returns-in-Compared
 returns-in-Compared c =

@@ -1,4 +1,4 @@
-use Rattle.std.proofs.Common.{List, ℕ, ap, refl, codes, map, ◌∙◌}
+use Rattle.std.proofs.Common.{ap, codes, map, ◌∙◌}
 use Rattle.std.proofs.lemmas.Result.{IfOk-weaker}
 use Rattle.jc_printer.specs.Canon.{canon_event}
 use Rattle.jc_answers.specs.JsonTexts.{number_member, string_member, text_member, array_text, object_text}

@@ -1,5 +1,4 @@
-use Rattle.std.proofs.Common.{rules, ◌≡◌, true, false, List, ℕ, None, ap, sym, subst, refl, ◌∙◌, length, ◌<◌, ◌^◌}
-use Rattle.std.specs.Result.{OkIff}
+use Rattle.std.proofs.Common.{rules, ◌≡◌, true, List, ℕ, subst, refl, ◌∙◌, length}
 use Rattle.std.specs.Str.{all_ascii_digits}
 use Rattle.std.specs.Str.Parse.{digits_value, ParsesUnsigned}
 use Rattle.std.proofs.lemmas.Str.Parse.{IsNumeralModel, numerals_by_value, tells_all_ascii_digits, parse_digits}
