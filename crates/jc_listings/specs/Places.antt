@@ -65,7 +65,11 @@ pub data IsBlock (text : List ℕ) : List Token → Block → Type 0 where
       → AreBraced tokens items stop
       → IsBlock text (word ∷ name ∷ tokens)
       (record {
-      kind = codes "replica"; name = Some (token_bytes text name); span = (word.start, stop); items = items })
+        kind = codes "replica";
+        name = Some (token_bytes text name);
+        span = (word.start, stop);
+        items = items;
+      })
   given : {tokens : List Token} {items : List Span} {stop : ℕ} (word : Token)
       → token_bytes text word ≡ codes "given"
       → AreBraced tokens items stop

@@ -65,7 +65,11 @@ impl<'a> Lexed<'a> {
                 let span = span(alloc, self.tokens[at].start, self.tokens[end - 1].stop)?;
                 spans.push(span.as_slice())?;
             }
-            at = if self.is_at(end, TokenKind::Semi) { end + 1 } else { end };
+            at = if self.is_at(end, TokenKind::Semi) {
+                end + 1
+            } else {
+                end
+            };
         }
         Ok((spans.end()?, at))
     }

@@ -140,12 +140,7 @@ fn viewed(alloc: Global, net: &Net, p: u16, bound: &Bound) -> Result<Vec<u8>, Al
     }
 }
 
-fn place_shown(
-    alloc: Global,
-    net: &Net,
-    p: u16,
-    expression: &Expr,
-) -> Result<Vec<u8>, LookFault>
+fn place_shown(alloc: Global, net: &Net, p: u16, expression: &Expr) -> Result<Vec<u8>, LookFault>
     requires { p < length net.now.history.now.states }
     ensures { AnswersBy (λ answer. OfReplica net.now.history.now.states p (λ A.
         ShowsValue (viewed_text net.now.names (name_at net.now.names p) A) net.now.names A (expr_of expression.now) answer))
@@ -155,12 +150,7 @@ fn place_shown(
     Ok(viewed(alloc, net, p, &bound)?)
 }
 
-fn value_shown(
-    alloc: Global,
-    net: &Net,
-    p: u16,
-    expression: &Expr,
-) -> Result<Vec<u8>, LookFault>
+fn value_shown(alloc: Global, net: &Net, p: u16, expression: &Expr) -> Result<Vec<u8>, LookFault>
     requires { p < length net.now.history.now.states }
     ensures { AnswersBy (λ answer. OfReplica net.now.history.now.states p (λ A.
         ShowsValue (bound_text net.now.names) net.now.names A (expr_of expression.now) answer))

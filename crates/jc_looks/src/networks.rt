@@ -22,11 +22,7 @@ pub fn first_network(alloc: Global, scenario: &Scenario) -> Result<Net, AllocErr
 }
 
 /// The network to which the first events of those that are given lead.
-pub fn given_network(
-    alloc: Global,
-    scenario: &Scenario,
-    count: usize,
-) -> Result<Net, AllocError>
+pub fn given_network(alloc: Global, scenario: &Scenario, count: usize) -> Result<Net, AllocError>
     requires formed { IsWellFormedScenario (scenario_view scenario.now) }
     requires within { count ≤ length (scenario_view scenario.now).given }
     // None of these is stuck.

@@ -65,7 +65,13 @@ pub fn value_of(alloc: Global, net: &Net, p: u16, expression: &Expr) -> Result<B
         unreachable!();
     };
     let mut trace = Trace::new(alloc);
-    match eval_in_map(alloc, replica.tree(), replica.vars(), expression, &mut trace) {
+    match eval_in_map(
+        alloc,
+        replica.tree(),
+        replica.vars(),
+        expression,
+        &mut trace,
+    ) {
         Ok(bound) => Ok(bound),
         Err(fault) => Err(LookFault::Refused(no_value(alloc, net.names(), &fault)?)),
     }

@@ -50,10 +50,20 @@ impl Served {
             Request::Act(rest) => rest.as_bytes(),
             _ => b"".as_slice(),
         };
-        answer_of(alloc, &self.here, self.scenario.given.as_slice(), text, &reply)
+        answer_of(
+            alloc,
+            &self.here,
+            self.scenario.given.as_slice(),
+            text,
+            &reply,
+        )
     }
 
-    fn session_answer(&mut self, alloc: Global, request: Request<'_>) -> Result<Vec<u8>, LookFault> {
+    fn session_answer(
+        &mut self,
+        alloc: Global,
+        request: Request<'_>,
+    ) -> Result<Vec<u8>, LookFault> {
         match request {
             Request::Run => Ok(self.run_answer(alloc)?),
             Request::BreakAt(n) => Ok(self.break_at(alloc, n)?),
@@ -109,8 +119,19 @@ impl Served {
             number,
             given: false,
         };
-        let rules = if details.trace { self.here.trace() } else { None };
-        let line = event_line(alloc, self.here.net(), &numbered, &before, rules, effects.as_ref())?;
+        let rules = if details.trace {
+            self.here.trace()
+        } else {
+            None
+        };
+        let line = event_line(
+            alloc,
+            self.here.net(),
+            &numbered,
+            &before,
+            rules,
+            effects.as_ref(),
+        )?;
         Ok(unended(line))
     }
 

@@ -27,11 +27,7 @@ pub(crate) fn replica_named(alloc: Global, names: &[Text], name: &[u8]) -> Resul
 }
 
 /// The replica with the name, if one is named, and else each.
-fn one_or_each(
-    alloc: Global,
-    names: &[Text],
-    name: Option<&[u8]>,
-) -> Result<Option<u16>, LookFault>
+fn one_or_each(alloc: Global, names: &[Text], name: Option<&[u8]>) -> Result<Option<u16>, LookFault>
     requires { length names.now ≤ MAX_REPLICAS }
     ensures { Finds (IsOneOrEach names.now (word_view name.entry)) (IsBadName names.now (word_view name.entry)) result }
 {

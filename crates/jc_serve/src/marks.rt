@@ -94,12 +94,7 @@ fn last_event(here: &Debugger) -> Option<Event>
 }
 
 /// Whether the event that led to the position made or applied the operation. `aside` is before that event.
-fn has_made(
-    alloc: Global,
-    aside: &Debugger,
-    here: &Debugger,
-    id: Id,
-) -> Result<bool, AllocError>
+fn has_made(alloc: Global, aside: &Debugger, here: &Debugger, id: Id) -> Result<bool, AllocError>
     requires { IsBehind aside.now here.now }
     ensures { IfOk result (λ names. IsTrue names
         ↔ MarkNames (start_of here.now) here.now.schedule (operation id) (length here.now.traces)) }

@@ -71,7 +71,13 @@ impl Served {
         let end = self.run(alloc)?;
         let at = self.here.position();
         let reply = Reply::Ran { at, end };
-        answer_of(alloc, &self.here, self.scenario.given.as_slice(), b"".as_slice(), &reply)
+        answer_of(
+            alloc,
+            &self.here,
+            self.scenario.given.as_slice(),
+            b"".as_slice(),
+            &reply,
+        )
     }
 
     /// The text of the event that leads to the position, if one does.

@@ -69,20 +69,22 @@ fn told_mark(
 }
 
 /// A breakpoint of a session as it is told.
-fn told_break(
-    alloc: Global,
-    names: &[Text],
-    number: u64,
-    b: Break,
-) -> Result<Vec<u8>, AllocError> {
+fn told_break(alloc: Global, names: &[Text], number: u64, b: Break) -> Result<Vec<u8>, AllocError> {
     let own = Member::number("number", number);
     match b {
         Break::Position(n) => {
-            object_text(alloc, &[Member::number("at", n), Member::string("kind", "at"), own])
+            object_text(
+                alloc,
+                &[Member::number("at", n), Member::string("kind", "at"), own],
+            )
         }
         Break::Rule(rule) => object_text(
             alloc,
-            &[Member::string("kind", "rule"), own, Member::string("rule", rule.name())],
+            &[
+                Member::string("kind", "rule"),
+                own,
+                Member::string("rule", rule.name()),
+            ],
         ),
         Break::Replica(p) => object_text(
             alloc,

@@ -146,7 +146,10 @@ pub fn serve<S: Source, K: Sink>(
             }
             Turn::Text(text) => {
                 held = Held::of(alloc, text)?;
-                send(out, counts_answer(alloc, held.text.as_slice(), &held.subject)?)?;
+                send(
+                    out,
+                    counts_answer(alloc, held.text.as_slice(), &held.subject)?,
+                )?;
             }
             Turn::End => return Ok(()),
             Turn::TooMany => return Err(ServeFault::TooMany),

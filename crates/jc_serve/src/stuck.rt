@@ -1,7 +1,7 @@
 //! A scenario of which a given event is stuck: there is no session, but what is before that event can be looked at.
 
 use crate::asking::{expression_at, look_of, replica_named};
-use crate::texts::{journal, quoted, quit_answer};
+use crate::texts::{journal, quit_answer, quoted};
 use jc_answers::Member;
 use jc_journal::stuck_line;
 use jc_listings::{Details, count_of, line_behind, places};
@@ -55,12 +55,7 @@ impl GivenStop {
     }
 
     /// What a look shows at a position.
-    fn look(
-        &self,
-        alloc: Global,
-        at: Option<Position>,
-        look: &Look,
-    ) -> Result<Vec<u8>, LookFault> {
+    fn look(&self, alloc: Global, at: Option<Position>, look: &Look) -> Result<Vec<u8>, LookFault> {
         let count = self.reached(alloc, at)?;
         let net = given_network(alloc, &self.scenario, count as usize)?;
         shown(alloc, &net, look)

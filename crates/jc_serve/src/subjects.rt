@@ -116,7 +116,11 @@ pub(crate) fn counts_answer(
         Subject::NoScenario(fault) => fault_answer(alloc, text, fault),
         Subject::StuckGiven(stop) => {
             let line = stop.line(alloc)?;
-            counts(alloc, &stop.scenario, Member::text("stuck", line.as_slice()))
+            counts(
+                alloc,
+                &stop.scenario,
+                Member::text("stuck", line.as_slice()),
+            )
         }
         Subject::Served(served) => counts(alloc, &served.scenario, Member::absent()),
     }

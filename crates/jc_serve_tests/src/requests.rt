@@ -6,31 +6,33 @@ use std::alloc::{AllocError, Global};
 use std::process::Abort;
 
 /// Two replicas, maps and a list.
-const ONE: &str = "jsoncrdt 1 replica a { doc.get(\"a\") := 1; yield; doc.get(\"a\") := {}; let x = doc.get(\"a\"); yield } replica b { doc.get(\"a\") := \"x\"; yield; doc.get(\"l\") := []; yield; doc.get(\"l\").idx(0).insertAfter(\"y\"); yield } schedule { a.exec; b.exec; a.send; b.send; a.recv(b); b.recv(a); a.apply(1, b); b.apply(1, a); a.done; b.done; a.exec; a.exec; b.exec; b.send; b.done; b.exec }";
+const ONE: &str =
+    "jsoncrdt 1 replica a { doc.get(\"a\") := 1; yield; doc.get(\"a\") := {}; let x = doc.get(\"a\"); yield } replica b { doc.get(\"a\") := \"x\"; yield; doc.get(\"l\") := []; yield; doc.get(\"l\").idx(0).insertAfter(\"y\"); yield } schedule { a.exec; b.exec; a.send; b.send; a.recv(b); b.recv(a); a.apply(1, b); b.apply(1, a); a.done; b.done; a.exec; a.exec; b.exec; b.send; b.done; b.exec }";
 
 /// Events are given.
-const TWO: &str = "jsoncrdt 2 replica p { doc.get(\"k\").get(\"m\") := 1; yield; doc.get(\"k\").delete; yield } replica q { yield } given { p.exec; p.send; q.take(p, 1, p) } schedule { q.apply(1, p); q.exec; p.done; p.exec }";
+const TWO: &str =
+    "jsoncrdt 2 replica p { doc.get(\"k\").get(\"m\") := 1; yield; doc.get(\"k\").delete; yield } replica q { yield } given { p.exec; p.send; q.take(p, 1, p) } schedule { q.apply(1, p); q.exec; p.done; p.exec }";
 
 /// A given event is stuck.
-const STUCK: &str = "jsoncrdt 2 replica p { doc := 1; yield } given { p.exec; p.done; p.exec } schedule { p.send }";
+const STUCK: &str =
+    "jsoncrdt 2 replica p { doc := 1; yield } given { p.exec; p.done; p.exec } schedule { p.send }";
 
 /// Values in braces and brackets, and a `;` behind the last of a block.
-const BLOCKS: &str = "jsoncrdt 1\nreplica a {}\nreplica b { doc := {}; doc := []; }\nschedule { b.exec; b.exec; }";
+const BLOCKS: &str =
+    "jsoncrdt 1\nreplica a {}\nreplica b { doc := {}; doc := []; }\nschedule { b.exec; b.exec; }";
 
 /// The last event is stuck.
-const LATE: &str = "jsoncrdt 1 replica a { let x = doc.get(\"a\"); doc.get(\"a\") := 1; yield } schedule { a.exec; a.exec; a.send; a.exec }";
+const LATE: &str =
+    "jsoncrdt 1 replica a { let x = doc.get(\"a\"); doc.get(\"a\") := 1; yield } schedule { a.exec; a.exec; a.send; a.exec }";
 
 /// Replicas end in different ways.
-const ENDS: &str = "jsoncrdt 1 replica a { doc.get(\"a\").get(\"b\") := 1; yield; let y = doc.get(\"q\").idx(3); yield } replica b { yield } schedule { a.exec; a.send; b.exec; b.recv(a); b.apply(1, a); a.done; a.exec }";
+const ENDS: &str =
+    "jsoncrdt 1 replica a { doc.get(\"a\").get(\"b\") := 1; yield; let y = doc.get(\"q\").idx(3); yield } replica b { yield } schedule { a.exec; a.send; b.exec; b.recv(a); b.apply(1, a); a.done; a.exec }";
 
 /// A scenario that is brought first, requests, and the answers of both.
 const ROWS: &[(Option<&str>, &str, &[&str])] = &[
     // Nothing is asked.
-    (
-        None,
-        "",
-        &[],
-    ),
+    (None, "", &[]),
     // Where there is no scenario, why the text is refused comes behind 58 alone.
     (
         None,
