@@ -14,7 +14,7 @@ pub(crate) const USAGE: &str = "jsoncrdt [COMMAND]\n       jsoncrdt help [COMMAN
 
 /// The command line in one line, where its parser has no text.
 pub(crate) const BRIEF: &str =
-    "Usage: jsoncrdt [check|print|run|view|journal|debug|threads|weave] [FILE]\n";
+    "Usage: jsoncrdt [check|print|run|view|journal|debug|serve|threads|weave] [FILE]\n";
 
 /// The help of the program.
 pub(crate) const PROGRAM: &str =
@@ -183,6 +183,13 @@ Statuses:\n  \
 3  an event was stuck, since no rule allows it; the last line says why\n  \
 4  a read or a write failed\n  \
 5  there was no memory";
+
+/// The help of `serve`.
+pub(crate) const SERVE: &str = "It is for programs: each line of standard input is a request, and is answered by one line of JSON\n\
+before the next is read. docs/PROGRAMS.md in the repository tells what can be asked.\n\
+\n\
+Example, a scenario of 12 bytes, which is refused:\n  \
+printf 'scenario 12\\njsoncrdt 1 x\\nquit\\n' | jsoncrdt serve";
 
 /// The help of `debug`.
 pub(crate) const DEBUG: &str =
