@@ -7,17 +7,18 @@ _jsoncrdt() {
         at=$((at + 1))
     done
     if [ "$COMP_CWORD" -eq "$at" ]; then
-        COMPREPLY=($(compgen -W 'check print run view journal debug threads weave help -h --help -V --version --explain --unproved --prove' -- "$word"))
+        COMPREPLY=($(compgen -W 'check print run view journal debug serve threads weave help -h --help -V --version --explain --unproved --prove' -- "$word"))
         return
     fi
     case ${COMP_WORDS[at]} in
-        help) COMPREPLY=($(compgen -W 'check print run view journal debug threads weave' -- "$word")); return ;;
+        help) COMPREPLY=($(compgen -W 'check print run view journal debug serve threads weave' -- "$word")); return ;;
         check) options='-h --help' ;;
         print) options='-h --help' ;;
         run) options='--trace -h --help' ;;
         view) options='--at -h --help' ;;
         journal) options='--trace --effects -h --help' ;;
         debug) options='-h --help' ;;
+        serve) options='-h --help' ;;
         threads) options='--limit -h --help' ;;
         weave) options='--seed --limit -h --help' ;;
     esac

@@ -8,19 +8,25 @@ import sys
 import textwrap
 
 from classes import CLASSES
-from judging import HERE, by_rules, refusals_of_events
+from judging import HERE, by_rules, refusals_of_events, rules
+from jsoncrdt import choosing
 from jsoncrdt.oracle.lines import RULES
 from jsoncrdt.oracle.streams import say
 from jsoncrdt.oracle.texts import REFUSALS
+from jsoncrdt.serving import Here
 from trying import kind_of
 
 PAGE = os.path.join(os.path.dirname(HERE), "tools", "page")
-STYLE = """body { font: 16px/1.5 sans-serif; margin: 2em auto; max-width: 60em; padding: 0 1em; color: #222;
-background: #fff }
+STYLE = """:root { color-scheme: light dark }
+body { font: 16px/1.5 sans-serif; margin: 2em auto; max-width: 60em; padding: 0 1em; color: light-dark(#222, #e7e9ee);
+background: light-dark(#fff, #14161a) }
+a { color: light-dark(#2557c9, #8db1ff) }
 table { border-collapse: collapse; margin: 1em 0 } th, td { padding: .2em .8em; text-align: left; vertical-align: top }
-th { border-bottom: 2px solid #888 } td { border-bottom: 1px solid #ddd } td.n { text-align: right }
-td.wide { width: 60% } pre { background: #f4f4f4; padding: .6em; white-space: pre-wrap; overflow-wrap: anywhere }
-.none { color: #a00; font-weight: bold }"""
+th { border-bottom: 2px solid #888 } td { border-bottom: 1px solid light-dark(#ddd, #343a43) } td.n { text-align: right }
+td.wide { width: 60% }
+pre { background: light-dark(#f4f4f4, #1c1f24); padding: .6em; white-space: pre-wrap; overflow-wrap: anywhere }
+.none { color: light-dark(#a00, #ff8b80); font-weight: bold }
+@media (max-width: 600px) { th, td { padding: .2em .4em } pre { font-size: 12px } }"""
 
 
 def write(path, content):
@@ -43,6 +49,12 @@ def keep(folder, difference, number, text, fault):
     write(os.path.join(folder, "page.html"), ended.stdout)
     if ended.returncode not in (0, 3):
         say(f"{folder}/page.html couldn't be made: {ended.stderr.decode(errors='replace').strip()}")
+
+
+def told_by():
+    """Who tells what the rules give, in words. Where the program is isn't said, since a report may be sent away."""
+    return "the rules in Python, of which nothing is proved" if isinstance(rules(), Here) else \
+        os.path.basename(choosing.program())
 
 
 def coverage(results):
@@ -94,14 +106,16 @@ def classes_in_html(results, accepted):
 def page_of(results, accepted, adapter):
     """The report as a page, which links each scenario that is kept to the page of its run."""
     first, *_ = lines_of(results, accepted)
-    rules, refusals = ("".join(rows_in_html(rows)) for rows in coverage(results))
+    of_rules, of_refusals = ("".join(rows_in_html(rows)) for rows in coverage(results))
     return f"""<!DOCTYPE html>
-<html lang="en"><meta charset="utf-8"><title>Campaign</title><style>{STYLE}</style>
+<html lang="en"><meta charset="utf-8"><meta name="viewport" content="width=device-width, initial-scale=1">
+<title>Campaign</title><style>{STYLE}</style>
 <h1>Campaign</h1>
-<p>Adapter: <code>{html.escape(' '.join([*filter(None, [adapter.function]), *adapter.words]))}</code>. {first}.</p>
+<p>Adapter: <code>{html.escape(' '.join([*filter(None, [adapter.function]), *adapter.words]))}</code>. {first}. What the
+rules give was told by {html.escape(told_by())}.</p>
 <table><tr><th>class<th>cases<th>the first of it</tr>
 {''.join(classes_in_html(results, accepted))}</table>
-<h2>Rules</h2><table><tr><th>rule<th>cases<th>uses</tr>{rules}</table>
-<h2>Refusals of events</h2><table><tr><th>refusal<th>cases<th>times</tr>{refusals}</table>
+<h2>Rules</h2><table><tr><th>rule<th>cases<th>uses</tr>{of_rules}</table>
+<h2>Refusals of events</h2><table><tr><th>refusal<th>cases<th>times</tr>{of_refusals}</table>
 </html>
 """

@@ -122,11 +122,11 @@ def take(events, _, draw):
 # ---- what the rules and the adapter give
 
 
-def by_rules(scenario):
+def by_rules(text):
     """The lines of `view`, the status, and how often each rule was used by an event of the schedule, and each refusal
     met. In this process that isn't asked through `serve`: to write what happened and read it again would take twice as
     long as to execute it."""
-    return by_rules_here(scenario) if isinstance(rules(), Here) else by_program(printed(scenario))
+    return by_rules_here(read(text)[0]) if isinstance(rules(), Here) else by_program(text)
 
 
 def by_program(text):
@@ -189,7 +189,7 @@ def ended_of(adapter, given):
 
 def judged(text, adapter):
     """The class of the difference, what is wrong, where something is, and the rules and refusals that were met."""
-    view, status, met = by_rules(read(text)[0])
+    view, status, met = by_rules(text)
     given = text
     if adapter.is_journal:
         given, view, status = told_of(text, True)

@@ -15,7 +15,7 @@ from jsoncrdt.oracle.lines import RULES
 # Where bytes come from and go to: the sources and sinks of jc_io, and what std has for them.
 OUTSIDE = re.compile(r"\bjc_io\b|\b(?:Sink|Source|ToWrite|FromRead)\b|\bstd::(?:io|fs|net|os|process|env)\b"
                      r"|\be?print(?:ln)?!")
-WRITING = ("jc_io", "jc_out", "jc_session", "jc_requests", "jc_program", "jc_app")
+WRITING = ("jc_io", "jc_out", "jc_session", "jc_requests", "jc_serve", "jc_program", "jc_app")
 # The streams and files of the machine.
 MACHINE = re.compile(r"\bstd::fs\b|\b(?:Stdin|Stdout|Stderr|File)\b|\b(?:stdin|stdout|stderr)\(")
 # What waits, or starts what is waited for.

@@ -85,7 +85,7 @@ ROWS = [
     # again.
     ("./test no-such-''word", 2, "test: no case has no-such-word in its name"),
     ("./test --nothing", 2, "test: "),
-    ("dev/waits nothing", 2, "waits: nothing isn't measured; there are serve, page, "),
+    ("dev/waits nothing", 2, "waits: nothing isn't measured; there are serve, package, "),
     ("dev/bench nothing", 2, "bench: nothing is no case"),
     ("dev/bench flat", 2, "bench: flat is no case"),
     ("dev/rows --help >/dev/null", 0, ""),

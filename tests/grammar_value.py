@@ -5,6 +5,7 @@ import functools
 import re
 
 from jsoncrdt.oracle.grammar import END, NAME, NUMBER, RESERVED, SIGN, STRING
+from jsoncrdt.oracle.refusal import DIGITS
 
 FOLDER = "crates/jc_grammar/specs/"
 VALUE, LISTS, GUARDS = FOLDER + "ScenarioGrammar.antt", FOLDER + "Grammar.antt", FOLDER + "Guards.antt"
@@ -202,6 +203,14 @@ def is_of(kind, token):
     return sort == NUMBER and spelling.isdigit()
 
 
+def part_of(kind):
+    """What messages call a class: a word or a sign itself, a kind of tokens, or digits."""
+    name, *asked = kind
+    if name == "any":
+        return SIGNS.get(asked[0]) or KINDS[asked[0]]
+    return {"other_word": NAME, "digits": DIGITS}.get(name) or asked[0]
+
+
 def unless_reserved(state, token):
     return 10 if token[1] in RESERVED else state
 
@@ -262,16 +271,22 @@ class Stopped(Exception):
 
 
 class Reader:
-    """Reads tokens by a part. A tree is a list of tokens and of pairs, the name of a production and what is in it."""
+    """Reads tokens by a part. A tree is a list of tokens and of pairs, the name of a production and what is in it. Of the
+    token that is next it keeps which classes it was asked for, and so what could stand there."""
 
     def __init__(self, tokens):
         self.tokens = tokens
         self.next = 0
         self.state = ((), 0)
+        self.asked = set()
+
+    def fits(self, kinds):
+        token = self.tokens[self.next]
+        self.asked.update(map(part_of, kinds))
+        return token[0] != END and any(is_of(kind, token) for kind in kinds)
 
     def begins(self, part):
-        token = self.tokens[self.next]
-        return token[0] != END and any(is_of(kind, token) for kind in first_classes(part))
+        return self.fits(first_classes(part))
 
     def tree(self, part):
         if part.name:
@@ -292,14 +307,15 @@ class Reader:
         return self.tree(inner)
 
     def symbol(self, kind):
-        token = self.tokens[self.next]
-        if token[0] == END or not is_of(kind, token):
+        if not self.fits([kind]):
             raise Stopped(None, self.next)
         self.next += 1
-        return token
+        self.asked = set()
+        return self.tokens[self.next - 1]
 
     def whole(self, part):
         tree = self.tree(part)
+        self.asked.add(END)
         if self.tokens[self.next][0] != END:
             raise Stopped(None, self.next)
         return tree
@@ -319,6 +335,16 @@ def read(part, tokens, is_scenario):
         return Reader(tokens).whole(part), None
     except Stopped as stopped:
         return None, stopped.fault or misfit(tokens, stopped.before, is_scenario)
+
+
+def expected(part, tokens):
+    """What could stand where the tokens stop to fit."""
+    reader = Reader(tokens)
+    try:
+        reader.whole(part)
+    except Stopped:
+        pass
+    return reader.asked
 
 
 # ---- trees as those of the rules in Python

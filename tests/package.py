@@ -12,7 +12,7 @@ from decimal import Decimal
 
 from cases import IN_PYTHON, NotTried, copy_into, expect, expect_same, folder_of, stored
 from jsoncrdt import ABSENT, Conflict, Identifier, NoAnswer, Place, Program, Refused, Rules, Scenario, Stuck, doc
-from jsoncrdt import check, journal, run, view, weave
+from jsoncrdt import check, journal, run, view, views, weave
 from jsoncrdt.machines import pool_of
 from jsoncrdt.oracle.engine import FAULTS
 from jsoncrdt.serving import Lost, Process
@@ -382,6 +382,29 @@ def asks_call_by_call(_):
                 expect(shown[0] == shown[1] == shown[2], f"{name}: {shown}")
 
 
+def viewed(text):
+    """The documents of a scenario, or why there are none."""
+    try:
+        return view(text, by=RULES)
+    except (Refused, Stuck) as why:
+        return why
+
+
+def views_are_alike(_):
+    """The documents of many scenarios are those of each. Where a text is refused or an event stuck that is told, and
+    the documents behind it all the same."""
+    texts = [kit_file(name, "scenario.jsoncrdt") for name in KIT[::5]] + ["jsoncrdt 1 replica a { doc = 1 }", "é"]
+    texts += [Scenario("p").do("p", doc.assign("x" * 65_000))] * 20 + [kit_file("both-append", "scenario.jsoncrdt")]
+    wanted = list(map(viewed, texts))
+    expect({*map(type, wanted)} == {dict, Refused, Stuck}, f"{wanted}")
+    plain = lambda each: vars(each) if isinstance(each, Exception) else each
+    with folder_of({"older": OLDER}) as folder:
+        for machine in (RULES, Program(os.path.abspath(IN_PYTHON)), Program(os.path.join(folder, "older"))):
+            found = list(views(iter(texts), by=machine))
+            wrong = [pair for pair in zip(map(plain, found), map(plain, wanted)) if pair[0] != pair[1]]
+            expect(len(found) == len(wanted) and not wrong, f"{machine} {str(wrong[:1])[:900]}")
+
+
 def asks_one_process(_):
     """A program with serve is started once, and anew where it has ended."""
     text = kit_file(KIT[0], "scenario.jsoncrdt")
@@ -581,8 +604,8 @@ def package():
     yield kit_case("the built program", KIT, None)
     for tried in (texts_come_back, refusals_are_typed, parts_are_refused, stuck_ones_are_typed, scenarios_are_written,
                   stuck_calls_change_nothing, ends_are_typed, effects_are_typed, effects_are_of_the_rules,
-                  asks_call_by_call, asks_one_process, asks_side_by_side, loses_no_time, answers_are_lacking,
-                  is_installed, is_imported_at_once):
+                  asks_call_by_call, views_are_alike, asks_one_process, asks_side_by_side, loses_no_time,
+                  answers_are_lacking, is_installed, is_imported_at_once):
         yield f"package: {tried.__name__.replace('_', ' ')}", tried
     yield machine_case("the built program", BY_RULES, 0, None, "")
     yield machine_case("no program that isn't built", None, 0, None, "the program isn't built")

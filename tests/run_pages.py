@@ -16,13 +16,19 @@ import subprocess
 import tempfile
 
 import sections
+from asking import Scenario
 from cases import IN_PYTHON, NotTried, expect, expect_same, folder_of, run, stored, told_errors
+from changes import Journal
+from fates import fates
 from kit import NAMES, dump_of
 from jsoncrdt.oracle.lines import RULES
+from layout import read_json
 from page_data import MOST_RULES
+from runs import one_schedule
 from jsoncrdt.oracle.sentences import SENTENCES
 
 DEBIAN_PYTHON = "/usr/bin/python3"
+MOST_POSITIONS = 40
 NEEDED = "chromium, chromium-driver and python3-selenium of Debian"
 # The refusals that a stuck event can have.
 OF_EVENTS = {20, *range(22, 37)}
@@ -210,6 +216,61 @@ def pages_of_all():
         yield page_case(file, functools.partial(stored, f"{file.removesuffix('.jsoncrdt')}.run"), True)
     for number, name in enumerate(NAMES):
         yield page_case(f"kit/{name}/scenario.jsoncrdt", functools.partial(dump_of, name), number % 4 == 0)
+    yield from map(script_case, sorted(glob.glob("examples/**/*.jsoncrdt", recursive=True)))
+    yield from (script_case(f"kit/{name}/scenario.jsoncrdt") for name in NAMES)
+
+
+def documents_there(program, text, positions):
+    """What `view` shows at positions of a scenario without given events: a list of lines for each, as JSON."""
+    requests = "".join(f"view --at {position}\n" for position in positions)
+    told = run([program, "serve"], program, f"scenario {len(text.encode())}\n{text}{requests}")
+    expect(not told.returncode, f"{told}")
+    return [read_json(line) for line in told.stdout.decode().splitlines()[1:]]
+
+
+def some_of(end):
+    """All positions where they are few, else some all along; the end is one of them."""
+    return [*range(end + 1)] if end <= MOST_POSITIONS else sorted({end * n // MOST_POSITIONS for n in
+                                                                    range(MOST_POSITIONS + 1)})
+
+
+def script_case(file):
+    """The page's script makes of the data the documents that `view` shows, from the last position back to the first,
+    and on; and at the end it tells of each operation what tools/fate does."""
+
+    def tried(programs):
+        if not shutil.which("node"):
+            raise NotTried("node")
+        data, scenario = Page(programs, [file], status=(0, 3)).data, Scenario(stored(file))
+        end = len(data["runs"][0]["events"])
+        positions = some_of(end)
+        told = run(["node", "tests/page_script.js"], programs.program,
+                   json.dumps({"data": data, "positions": [*reversed(positions), *positions]}))
+        expect(not told.returncode, told.stderr.decode())
+        found, count = json.loads(told.stdout), len(positions)
+        back, on = found["documents"][:count], found["documents"][count:]
+        expect(on == [*reversed(back)], f"{file}: the documents on the way back are others")
+        wanted = documents_there(programs.program, one_schedule(scenario, None), positions)
+        for at, lines, texts in zip(positions, wanted, on, strict=True):
+            shown = [{"name": name} | ({"doc": read_json(text)} if text else {})
+                     for name, text in zip(data["names"], texts, strict=True)]
+            expect(shown == lines, f"{file} at {at}: {shown}, and not {lines}"[:900])
+        same_fates(file, found["fates"], fates(Journal(one_schedule(scenario, end))))
+
+    return f"tools/page: its script on {file}", tried
+
+
+def same_fates(file, made, told):
+    wanted = [[made, [at_number(fate) | {"replica": name} for name, fate in there.items()]]
+              for made, _, there in told]
+    wrong = next((pair for pair in zip(made, wanted) if pair[0] != pair[1]), None)
+    expect(len(made) == len(wanted) and not wrong, f"{file}: {len(made)} operations of {len(wanted)}: {wrong}")
+
+
+def at_number(fate):
+    """A fate as the page has it, which tells of an event its number alone."""
+    found = {name: member for name, member in fate.items() if name not in ("number", "event")}
+    return found | ({"at": fate["number"]} if "number" in fate else {})
 
 
 def is_odd(programs):

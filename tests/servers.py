@@ -454,9 +454,13 @@ def tells_waits(programs):
     needed, is_there = OF_BOTH
     if not is_there(programs):
         raise NotTried(needed)
-    ended = run(["dev/waits", "--times", "1", "--events", "40", "serve", "page", "lsp", "dap"], programs.program)
-    first, *rest = ended.stdout.decode().splitlines()
-    expect(ended.returncode == 0 and re.match(r"serve: 100 scenarios of 40 events, \d+ a second ", first), f"{ended}")
+    ended = run(["dev/waits", "--times", "1", "--events", "40", "serve", "package", "page", "lsp", "dap"],
+                programs.program)
+    expect(ended.returncode == 0, f"{ended}")
+    *both, rest = ended.stdout.decode().split("\n", 2)
+    rest = rest.splitlines()
+    for what, line in zip(("serve", "the package"), both, strict=True):
+        expect(re.match(rf"{what}: 100 scenarios of 40 events, \d+ a second ", line), line)
     wrong = [what for what, line in zip(WAITS, rest)
              if not re.fullmatch(rf"{what}\b.*?(?: +\d+)(?: +\d+\.\d){{2}}", line)]
     expect(not wrong and len(rest) == len(WAITS), f"{wrong} of {rest}")

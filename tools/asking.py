@@ -151,10 +151,14 @@ class Asked:
 
     def line_about(self, text, request):
         """The same of one that the tool can't go on without."""
-        line = self.line_told(text, request)
-        if line.startswith(REFUSED):
-            unless_refused(json.loads(line))
-        return line
+        return line_unless_refused(self.line_told(text, request))
+
+    def lines_about(self, text, requests):
+        """The same of some requests, which are asked all at once."""
+        with self.lock:
+            self.bring(text)
+            asked = [(serving.line_of(request), None) for request in requests]
+            return [line_unless_refused(line.decode()) for line in self.whole(self.answering.answers, asked)]
 
     def whole(self, ask, what):
         try:
@@ -172,6 +176,12 @@ def unless_refused(answer):
     if isinstance(answer, dict) and "refused" in answer:
         stop(line_of_refusal(answer["refused"]), 1)
     return answer
+
+
+def line_unless_refused(line):
+    if line.startswith(REFUSED):
+        unless_refused(json.loads(line))
+    return line
 
 
 # Who answers requests of `serve` in place of the rules in this process: a process of theirs, in a tool that has a

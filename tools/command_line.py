@@ -7,7 +7,8 @@ command help, the words of the launcher and status 127 stand here alone.
 from collections import namedtuple
 
 Option = namedtuple("Option", "name short value about default", defaults=(None, None, "", None))
-Command = namedtuple("Command", "name options about more")
+# A command is of a file, unless it says otherwise.
+Command = namedtuple("Command", "name options about more has_file", defaults=(True,))
 
 ABOUT = ("A command machine and time-travelling debugger for the JSON CRDT of Kleppmann and Beresford (2017). It "
          "executes scenarios of concurrent edits by the published rules, forwards and backwards, and shows what they "
@@ -48,6 +49,9 @@ COMMANDS = [
             "Debugger: step through the schedule, forwards and backwards, by lines of standard input",
             "Answers each line before it reads the next. debug --help lists the lines; act cuts off the rest of the "
             "schedule for good."),
+    Command("serve", [],
+            "Answer the requests of a program, each by a line of JSON, from standard input",
+            "Answers each request before it reads the next. There is no file: a request brings the scenario.", False),
     Command("threads",
             [Option("--limit", value="N", about="Let each replica execute N events at most, from 0 to 100000",
                     default="10000")],
@@ -69,7 +73,8 @@ STATUSES = [
     (2, "the arguments are wrong: no such command or option, no file, a number out of its range, or an argument that "
         "isn't UTF-8"),
     (3, "an event was stuck, since no rule allows it; a line says why"),
-    (4, "a read or a write failed, or a session had too many lines"),
+    (4, "a read or a write failed, a session had too many lines, or the input of serve ended within a text or had too "
+        "many requests"),
     (5, "there was no memory, or a thread could not be made"),
     (127, "the program could not be built, or is needed for threads and not built, or there is no python3 in its "
           "place"),

@@ -11,7 +11,7 @@ import changes
 from asking import asked, document_of, journal_of, told
 
 FEWEST_EVENTS, FEWEST_BACK = 1000, 16
-MOST_VIEWS = 1000
+MOST_VIEWS, MOST_AT_ONCE = 1000, 64
 
 
 class Journal:
@@ -102,14 +102,32 @@ class Positions:
 
     def documents(self, positions):
         """These positions, which rise, each with the JSON text of each replica's document, or none, by its name. Where
-        no event of a replica is between two of them, its document is the same."""
-        documents, before = {}, None
-        for position in positions:
-            between = () if before is None else range(before + 1, position + 1)
-            names = {self.line(number)["replica"] for number in between} if between else self.scenario.scripts
-            documents = documents | {name: document_of(self.view(position, name)) for name in names}
-            yield position, documents
-            before = position
+        no event of a replica is between two of them, its document is the same. More and more are asked for at once."""
+        documents, before, positions, count = {}, None, iter(positions), 1
+        while some := list(itertools.islice(positions, count)):
+            for position, changed in zip(some, self.changed([before, *some])):
+                documents = documents | changed
+                yield position, documents
+            before, count = some[-1], min(2 * count, MOST_AT_ONCE)
+
+    def changed(self, positions):
+        """For each of these but the first, the documents of the replicas that have an event behind the one before; of
+        all where there is none before."""
+        pairs = [(position, self.acting(before, position)) for before, position in itertools.pairwise(positions)]
+        found = iter(self.views_at([(position, name) for position, names in pairs for name in names]))
+        return [{name: document_of(next(found)) for name in names} for _, names in pairs]
+
+    def acting(self, before, position):
+        """The replicas with an event behind the one position, up to the other; all where there is none before."""
+        if before is None:
+            return self.scenario.scripts
+        return {self.line(number)["replica"] for number in range(before + 1, position + 1)}
+
+    def views_at(self, wanted):
+        """The lines of views, each at a position of a replica."""
+        if asked():
+            return asked().lines_about(self.text, [f"view --at {position} {name}" for position, name in wanted])
+        return [self.view(position, name) for position, name in wanted]
 
     def next_with(self, position, holds):
         """The nearest position behind this one whose documents are as is asked, or none."""

@@ -21,7 +21,7 @@ if not os.path.isdir(os.path.join(_HERE, "oracle")):
 _NAMES = {
     "answers": "ABSENT Conflict Counts Effect End Event Identifier NoAnswer Operation Refused State Stuck Unproved "
                "documents",
-    "machines": "Program Rules check journal machine run view weave",
+    "machines": "Program Rules check journal machine run view views weave",
     "scenario": "Place Scenario Woven doc",
 }
 _MODULES = {name: module for module, names in _NAMES.items() for name in names.split()}

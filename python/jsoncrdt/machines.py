@@ -21,6 +21,7 @@ from .serving import Foreign, Lost, Process, has_serve, line_of_refusal, with_ro
 
 REFUSED, STUCK = 1, 3
 LONGEST_CALL = 600  # seconds
+AT_ONCE, MOST_AT_ONCE = 50, 1 << 20  # scenarios that a program is asked about at once, and about how many bytes
 
 
 class Told(NamedTuple):
@@ -38,6 +39,9 @@ class Rules:
     """The rules in Python. Nothing of what they tell is proved."""
 
     has_effects = True
+
+    def tell_all(self, words, texts):
+        return [self.tell(words, text) for text in texts]
 
     def tell(self, words, text):
         out, err = io.BytesIO(), io.StringIO()
@@ -87,11 +91,16 @@ class Program:
         return has_serve(self.path)
 
     def tell(self, words, text):
+        return self.tell_all(words, [text])[0]
+
+    def tell_all(self, words, texts):
+        """What is told of each text. A process of serve is asked about all of them at once."""
         if not has_serve(self.path):
-            return self.call(words, text)
+            return [self.call(words, text) for text in texts]
         try:
             with pool_of(self.path).one() as served:
-                return Conversation(served, text).told(words)
+                found = served.bring_and_ask(texts, *known_at_once(*words))
+                return [told_of(served, words, *each) for each in found]
         except (Lost, Foreign) as fault:
             raise answers.NoAnswer(f"{self.path}: {fault}") from fault
 
@@ -105,36 +114,47 @@ class Program:
         return Told(output, errors, ended.returncode)
 
 
-class Conversation:
-    """Requests of `serve` about one text, which say what the words of a command line do."""
+# By which request of `serve` a command shows what there is.
+SHOWS = {"view": "view", "run": "state"}
 
-    def __init__(self, served, text):
-        self.ask, self.counts = served.ask, served.bring(text)
 
-    def told(self, words):
-        command, *options = words
-        if "refused" in self.counts:
-            return Told(line_of_refusal(self.counts["refused"]) + "\n", "", REFUSED)
-        if command == "check":
-            return Told("", "", 0, [{name: count for name, count in self.counts.items() if name != "stuck"}])
-        if command == "journal":
-            rows = self.ask(" ".join(words))
-            return Told("", "", STUCK if rows and "stuck" in rows[-1] else 0, rows)
-        if "stuck" in self.counts:
-            return Told("", "", STUCK, [], self.counts["stuck"])
-        return self.weave(*options[1::2]) if command == "weave" else self.shown(command, *options[1:])
+def known_at_once(command, *options):
+    """The requests of a command that don't follow from an answer, so that they are written with the text."""
+    if command == "journal":
+        return [" ".join([command, *options])]
+    if command == "weave":
+        return [" ".join([command, *options[1::2]]), "print"]
+    return ["goto end", SHOWS[command]] if command in SHOWS and not options else []
 
-    def shown(self, command, at=None):
-        """What is shown at a position, or at the end."""
-        moved = self.ask("goto end" if at is None or int(at) > self.counts["events"] else f"goto {at}")
-        return Told("", "", STUCK if "stuck" in moved else 0, self.ask("state" if command == "run" else command),
-                    moved.get("stuck"))
 
-    def weave(self, seed, limit):
-        woven = self.ask(f"weave {seed} {limit}")
-        text = "".join([self.ask("print").rpartition("\nschedule {\n")[0], "\nschedule {\n",
-                        *(f"  {event};\n" for event in woven["events"]), "}\n"])
-        return Told(text, "", STUCK if any("stuck" in end for end in woven["ends"]) else 0, woven["ends"])
+def told_of(served, words, counts, *found):
+    """What the words of a command line tell of a text: of its counts, and of the answers to what was asked with it."""
+    command, *options = words
+    if "refused" in counts:
+        return Told(line_of_refusal(counts["refused"]) + "\n", "", REFUSED)
+    if command == "check":
+        return Told("", "", 0, [{name: count for name, count in counts.items() if name != "stuck"}])
+    if command == "journal":
+        [rows] = found
+        return Told("", "", STUCK if rows and "stuck" in rows[-1] else 0, rows)
+    if "stuck" in counts:
+        return Told("", "", STUCK, [], counts["stuck"])
+    return woven(*found) if command == "weave" else shown(*found or shown_at(served, counts, command, options[1]))
+
+
+def shown_at(served, counts, command, at):
+    """What a command shows at a position: what answers the way there, and the rows."""
+    return served.ask("goto end" if int(at) > counts["events"] else f"goto {at}"), served.ask(SHOWS[command])
+
+
+def shown(moved, rows):
+    return Told("", "", STUCK if "stuck" in moved else 0, rows, moved.get("stuck"))
+
+
+def woven(weave, printed):
+    text = "".join([printed.rpartition("\nschedule {\n")[0], "\nschedule {\n",
+                    *(f"  {event};\n" for event in weave["events"]), "}\n"])
+    return Told(text, "", STUCK if any("stuck" in end for end in weave["ends"]) else 0, weave["ends"])
 
 
 def machine():
@@ -148,24 +168,23 @@ def machine():
 
 @functools.cache
 def say_unproved(lack):
-    """Says it where a scenario is asked: machine, Call, a function here and a method of the scenario are between."""
+    """Says it where a scenario is asked: machine, called, a function here and a method of the scenario are between."""
     warnings.warn(f"the rules in Python answer, unproved: {lack}", answers.Unproved, stacklevel=6)
 
 
 class Call:
-    """A call of a machine for a scenario, which raises what is refused. `rows` are the values of its lines of JSON."""
+    """What a machine has told of a scenario, which raises what is refused. `rows` are the values of its lines of
+    JSON."""
 
-    def __init__(self, words, scenario, by):
-        text = scenario if isinstance(scenario, (str, bytes)) else scenario.text()
-        self.text, self.machine = text.encode() if isinstance(text, str) else text, by or machine()
-        self.told = self.machine.tell(words, self.text)
+    def __init__(self, text, by, told):
+        self.text, self.machine, self.told = text, by, told
         self.lines = self.told.output.split("\n")[:-1]
         if self.told.status == REFUSED and self.lines and self.lines[0].startswith("refused "):
             _, number, name, _, offset = self.lines[0].split()
             raise answers.Refused(self.text, int(number), name, int(offset))
         if self.told.status not in (0, STUCK):
-            told = self.told.errors.strip().rpartition("\n")[2] or "and nothing else is told"
-            raise answers.NoAnswer(f"it ended with status {self.told.status}: {told}")
+            said = self.told.errors.strip().rpartition("\n")[2] or "and nothing else is told"
+            raise answers.NoAnswer(f"it ended with status {self.told.status}: {said}")
 
     @property
     def rows(self):
@@ -185,23 +204,62 @@ class Call:
 
     def raise_stuck(self, before):
         """Raises the event that is stuck, of which the journal tells most."""
-        raise answers.Stuck(self.told.stuck or Call(["journal"], self.text, self.machine).rows[-1], before)
+        raise answers.Stuck(self.told.stuck or called(["journal"], self.text, self.machine).rows[-1], before)
+
+
+def bytes_of(scenario):
+    text = scenario if isinstance(scenario, (str, bytes)) else scenario.text()
+    return text.encode() if isinstance(text, str) else text
+
+
+def called(words, scenario, by):
+    """The call of a machine for a scenario."""
+    text, by = bytes_of(scenario), by or machine()
+    return Call(text, by, by.tell(words, text))
 
 
 def check(scenario, by=None):
     """How much there is of a scenario."""
-    call = Call(["check"], scenario, by)
+    call = called(["check"], scenario, by)
     return answers.Counts(**call.rows[0]) if call.rows else answers.counts(call.lines[0])
 
 
 def view(scenario, at=None, by=None):
     """The documents after `at` events, or after all, by the names of the replicas."""
-    return Call(["view"] if at is None else ["view", "--at", str(at)], scenario, by).read(answers.documents_of)
+    return called(["view"] if at is None else ["view", "--at", str(at)], scenario, by).read(answers.documents_of)
+
+
+def views(scenarios, by=None):
+    """For each scenario what `view` gives, or the Refused or Stuck that it raises. A program is asked about many of
+    them at once, which takes less time."""
+    return views_by(scenarios, by or machine())
+
+
+def views_by(scenarios, by):
+    for texts in portions(map(bytes_of, scenarios)):
+        for text, told in zip(texts, by.tell_all(["view"], texts)):
+            try:
+                yield Call(text, by, told).read(answers.documents_of)
+            except (answers.Refused, answers.Stuck) as why:
+                yield why
+
+
+def portions(texts):
+    """Lists of texts: as many as are asked about at once, but fewer where they are long."""
+    portion, size = [], 0
+    for text in texts:
+        portion.append(text)
+        size += len(text)
+        if len(portion) >= AT_ONCE or size >= MOST_AT_ONCE:
+            yield portion
+            portion, size = [], 0
+    if portion:
+        yield portion
 
 
 def run(scenario, by=None):
     """The states at the end, by the names of the replicas."""
-    return Call(["run"], scenario, by).read(answers.states)
+    return called(["run"], scenario, by).read(answers.states)
 
 
 def has_effects(by):
@@ -215,7 +273,7 @@ def journal(scenario, trace=False, effects=False, by=None):
     if effects and not has_effects(by):
         say_unproved("effects come from them alone")
         by = Rules()
-    told = Call(["journal"] + ["--trace"] * trace + ["--effects"] * effects, scenario, by).rows
+    told = called(["journal"] + ["--trace"] * trace + ["--effects"] * effects, scenario, by).rows
     made = with_room(lambda: [answers.event(line) for line in told if "stuck" not in line])
     if len(made) < len(told):
         raise answers.Stuck(told[-1], made)
@@ -224,7 +282,7 @@ def journal(scenario, trace=False, effects=False, by=None):
 
 def weave(scenario, seed=0, limit=10_000, by=None):
     """The text of the scenario with the schedule of a seed, and how each replica ended, by its name."""
-    call = Call(["weave", "--seed", str(seed), "--limit", str(limit)], scenario, by)
+    call = called(["weave", "--seed", str(seed), "--limit", str(limit)], scenario, by)
     if call.told.rows == [] or call.told.output.startswith("refused "):
         call.raise_stuck(None)
     return call.told.output, answers.ends(call.told.rows or call.told.errors.split("\n"))

@@ -41,13 +41,15 @@ def with_room(call, *arguments):
 def value_of(line):
     """The value that an answer is."""
     try:
-        return with_room(json.loads, line)
+        return with_room(json.loads, line.decode())
     except ValueError:
         raise Foreign("it answered no JSON") from None
 
 
 def line_of(request):
     """The line of a request: in one line, with escapes for what isn't ASCII."""
+    if request.isascii() and request.isprintable():
+        return request.encode()
     request = re.sub(r"[^\x00-\x7f]", lambda found: json.dumps(found[0])[1:-1], request)
     return " ".join(request.splitlines()).encode()
 
@@ -82,10 +84,23 @@ class Answering:
 
     def bring(self, text):
         """Brings a scenario, and gives the answer."""
-        counts = value_of(self.answer(b"%s%d" % (BRINGS.encode(), len(text)), text))
-        if not (isinstance(counts, dict) and counts.keys() & {"commands", "refused"}):
-            raise Foreign("it neither took a scenario nor refused it")
+        [[counts]] = self.bring_and_ask([text])
         return counts
+
+    def bring_and_ask(self, texts, *requests):
+        """Brings scenarios, one behind the other, and asks the same about each: for each the answer to its coming, and
+        those to the requests."""
+        lines = [(line_of(request), None) for request in requests]
+        asked = [line for text in texts for line in [(b"%s%d" % (BRINGS.encode(), len(text)), text), *lines]]
+        found = list(map(value_of, self.answers(asked)))
+        parts = [found[first:first + 1 + len(lines)] for first in range(0, len(found), 1 + len(lines))]
+        if not all(isinstance(counts, dict) and counts.keys() & {"commands", "refused"} for counts, *_ in parts):
+            raise Foreign("it neither took a scenario nor refused it")
+        return parts
+
+    def answers(self, asked):
+        """The answers to lines, each of which has a text behind it or none."""
+        return [self.answer(line, text) for line, text in asked]
 
     def is_ready(self):
         """Whether what was brought is still there."""
@@ -120,7 +135,7 @@ class Process(Answering):
 
     def __init__(self, path, say=None, seconds=LONGEST_ANSWER):
         self.path, self.say, self.seconds = path, say, seconds
-        self.process, self.owner, self.read, self.why = None, None, b"", None
+        self.process, self.owner, self.read, self.why = None, None, bytearray(), None
         self.lock, self.is_broken_off = threading.RLock(), False
 
     def start(self):
@@ -132,48 +147,74 @@ class Process(Answering):
         except OSError as error:
             raise Lost(f"{self.path}: {error.strerror}") from error
         os.set_blocking(self.process.stdin.fileno(), False)
-        self.owner, self.read, self.why, self.is_broken_off = os.getpid(), b"", None, False
+        self.owner, self.read, self.why, self.is_broken_off = os.getpid(), bytearray(), None, False
 
     def answer(self, line, text=None):
+        return self.answers([(line, text)])[0]
+
+    def answers(self, asked):
+        """All is written before an answer is waited for, since a turn between two processes takes as long as a short
+        answer does."""
         with self.lock:
-            if self.owner != os.getpid():
-                self.process = None  # it answers the process from which this one was forked
-            elif self.process and self.is_broken_off:
-                self.lose(BROKEN_OFF)
-            elif self.process and text is not None and self.process.poll() is not None:
-                self.lose(self.ended())
-            if not self.process:
-                if text is None:
-                    raise Lost(f"{self.path} has no scenario any more")
-                self.start()
-            limit = time.monotonic() + self.seconds
+            self.be_ready(asked[0][1])
             try:
-                self.send(b"%s\n%s" % (line, text or b""), limit)
-                return self.receive(limit)
+                return self.exchange(b"".join(b"%s\n%s" % (line, text or b"") for line, text in asked), len(asked))
             except BaseException as fault:
                 self.lose(fault)
                 raise
 
-    def send(self, content, limit):
-        left = memoryview(content)
-        while left:
-            if not select.select([], [self.process.stdin], [], max(0, limit - time.monotonic()))[1]:
-                raise Lost(f"{self.path} reads nothing for {self.seconds} seconds")
-            try:
-                left = left[os.write(self.process.stdin.fileno(), left[:PIECE]):]
-            except BrokenPipeError:
-                return  # what it wrote before it ended is read all the same
+    def be_ready(self, text):
+        """Starts the process where none is there, which is possible where a text is brought."""
+        if self.owner != os.getpid():
+            self.process = None  # it answers the process from which this one was forked
+        elif self.process and self.is_broken_off:
+            self.lose(BROKEN_OFF)
+        elif self.process and text is not None and self.process.poll() is not None:
+            self.lose(self.ended())
+        if not self.process:
+            if text is None:
+                raise Lost(f"{self.path} has no scenario any more")
+            self.start()
 
-    def receive(self, limit):
-        pieces = [self.read]
-        while b"\n" not in pieces[-1]:
-            if not select.select([self.process.stdout], [], [], max(0, limit - time.monotonic()))[0]:
-                raise Lost(f"{self.path} gives no answer in {self.seconds} seconds")
-            pieces.append(os.read(self.process.stdout.fileno(), 1 << 20))
-            if not pieces[-1]:
-                raise Lost(self.ended())
-        line, _, self.read = b"".join(pieces).partition(b"\n")
-        return line
+    def exchange(self, content, count):
+        """Writes what is asked, and gives so many answers. Where there is no room for all that is asked, answers are
+        read meanwhile, so neither end waits for the other one."""
+        limit, left, lines, looked = time.monotonic() + self.seconds, self.write(memoryview(content)), [], 0
+        while left or len(lines) < count:
+            end = self.read.find(b"\n", looked)
+            if end >= 0:
+                lines.append(bytes(self.read[:end]))
+                del self.read[:end + 1]
+                looked = 0
+                continue
+            looked = len(self.read)
+            asked = [self.process.stdin] if left else []
+            told, has_room, _ = select.select([self.process.stdout], asked, [], max(0, limit - time.monotonic()))
+            if not told and not has_room:
+                what = "reads nothing for" if left else "gives no answer in"
+                raise Lost(f"{self.path} {what} {self.seconds} seconds")
+            left = self.write(left) if has_room else left
+            if told:
+                self.take()
+        return lines
+
+    def write(self, left):
+        """Writes as much as there is room for, and gives what is left."""
+        try:
+            while left:
+                left = left[os.write(self.process.stdin.fileno(), left[:PIECE]):]
+        except BlockingIOError:
+            pass
+        except BrokenPipeError:
+            return b""  # what it wrote before it ended is read all the same
+        return left
+
+    def take(self):
+        """Reads what is there of answers."""
+        piece = os.read(self.process.stdout.fileno(), 1 << 20)
+        if not piece:
+            raise Lost(self.ended())
+        self.read += piece
 
     def ended(self):
         status = self.process.wait()

@@ -68,15 +68,24 @@ function closedDocument(run, r, at, key) {
     run.documentAt(r, at).slice(0, MOST_BRIEF) || "nothing yet");
 }
 
+/** Draws a card, or gives the one that is there where that shows the same. */
 function card(run, group, at, isFirst) {
-  const actor = run.actorAt(positionOn(run)), isActive = group.includes(actor), r = isActive ? actor : group[0];
-  const key = `${run.side} ${group[0]}`, all = run.countMade(at), lacks = all - run.countApplied(r, at);
-  const isLacking = each => !each.isApplied(r, at), label = `Document of ${group.map(each => names[each]).join(", ")}`;
-  return h("article", { class: isActive ? "card active" : "card", "aria-label": label },
-    headOfCard(run, group, r, at),
-    lacks > 0 && h("div", { class: "note" }, "not applied: ", summed(run, lacks, all, isLacking)),
-    isFirst || chosen.open.has(key) ? openDocument(run, r, at, all) : closedDocument(run, r, at, key));
+  const position = positionOn(run), actor = run.actorAt(position), isActive = group.includes(actor);
+  const r = isActive ? actor : group[0], key = `${run.side} ${group[0]}`, isOpen = isFirst || chosen.open.has(key);
+  const all = run.countMade(at), lacks = all - run.countApplied(r, at);
+  const label = `Document of ${group.map(each => names[each]).join(", ")}`;
+  const shows = JSON.stringify([group, run.countChanges(r, at), lacks && all, isOpen, isActive && position,
+    isDiff && chosen.at]);
+  const isLacking = each => !each.isApplied(r, at);
+  return drawnCards[run.side].get(shows) ?? h("article", { class: isActive ? "card active" : "card",
+    "aria-label": label, "data-shows": shows },
+  headOfCard(run, group, r, at),
+  lacks > 0 && h("div", { class: "note" }, "not applied: ", summed(run, lacks, all, isLacking)),
+  isOpen ? openDocument(run, r, at, all) : closedDocument(run, r, at, key));
 }
+
+// The cards that are there, by what they show.
+const drawnCards = runs.map(() => new Map());
 
 const documentBodies = runs.map(({ side }) =>
   h("div", { class: "body", tabindex: 0, "aria-label": "Documents", "data-side": side }));
@@ -87,7 +96,8 @@ function drawDocuments() {
     const position = positionOn(run), at = run.made(position), actor = run.actorAt(position);
     const groups = run.groupsAt(at).sort((one, other) => other.includes(actor) - one.includes(actor));
     documentHeads[run.side].textContent = `Documents at ${run.nameOf(at)}`;
-    documentBodies[run.side].replaceChildren(...groups.map((group, index) =>
-      card(run, group, at, index === 0 || groups.length <= MOST_OPEN)));
+    const cards = groups.map((group, index) => card(run, group, at, index === 0 || groups.length <= MOST_OPEN));
+    keepChildren(documentBodies[run.side], cards);
+    drawnCards[run.side] = new Map(cards.map(each => [each.dataset.shows, each]));
   }
 }

@@ -1,7 +1,7 @@
 // The details of one run at a position: the event with its operation and its rules, the state of a replica, all
 // operations.
 
-const MOST_RULES = 300, MOST_STEPS = 14, MOST_OPERATIONS = 400, FEW_TIMES = 3;
+const MOST_RULES = 300, MOST_STEPS = 14, MOST_OPERATIONS = 100, FEW_TIMES = 3;
 
 const goTo = (run, at) => at >= 1 && at <= run.end
   ? h("button", { class: "at", type: "button", onclick: () => go(at, run.side) }, run.calledAt(at)) : run.calledAt(at);
@@ -140,7 +140,7 @@ function operationRow(run, each, at, groups) {
   for (const group of groups) {
     const [r] = group, isWaiting = !each.isApplied(r, at) && each.isReceived(r, at);
     const found = isWaiting ? { fate: "received" } : fateOf(run, each, r, at);
-    const key = JSON.stringify([found.fate, signOf(found)]);
+    const key = JSON.stringify([found.conflict ? "in conflict" : found.fate, signOf(found)]);
     fates.set(key, (fates.get(key) ?? 0) + group.length);
   }
   const count = names.filter((_, r) => each.isApplied(r, at)).length;
@@ -151,18 +151,25 @@ function operationRow(run, each, at, groups) {
   return h("tr", {}, [...cells, `${count} of ${names.length}`, now].map(cell => h("td", {}, cell)));
 }
 
-function operationsTab(run, position) {
-  const at = run.made(position), groups = run.groupsAt(at), made = run.countMade(at);
-  const shown = [...run.inOrder.slice(Math.max(0, made - MOST_OPERATIONS), made),
-    ...run.inOrder.slice(made, made + Math.max(0, MOST_OPERATIONS - made))];
-  const pinned = run.operations.get(chosen.operation);
+/** The operations around the position, and all of them where they are asked for. */
+function operationsTable(run, at) {
+  const groups = run.groupsAt(at), made = run.countMade(at), all = run.inOrder, list = h("div", {});
   const head = h("tr", {}, ["Operation", "Command", "Applied", "Now"].map(text => h("th", { scope: "col" }, text)));
-  const rest = run.inOrder.length - shown.length;
+  const draw = most => {
+    const begin = Math.max(0, made - most), rows = all.slice(begin, begin + most);
+    const more = rows.length < all.length &&
+      h("button", { class: "more", type: "button", onclick: () => draw(all.length) }, `show all ${all.length}`);
+    list.replaceChildren(...shownOf([h("table", { class: "ops" }, h("thead", {}, head),
+      h("tbody", {}, rows.map(each => operationRow(run, each, at, groups)))), more]));
+  };
+  draw(MOST_OPERATIONS);
+  return list;
+}
+
+function operationsTab(run, position) {
+  const at = run.made(position), pinned = run.operations.get(chosen.operation);
   return [pinned && operationPanel(run, pinned, at, true),
-    shown.length ? h("table", { class: "ops" }, h("thead", {}, head),
-      h("tbody", {}, shown.map(each => operationRow(run, each, at, groups))))
-      : h("p", { class: "none" }, "No operation is made."),
-    rest > 0 && h("p", { class: "none" }, `${countOf(rest, "operation")} further away, not in this list`)];
+    run.inOrder.length ? operationsTable(run, at) : h("p", { class: "none" }, "No operation is made.")];
 }
 
 const TABS = {

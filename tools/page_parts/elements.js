@@ -26,6 +26,16 @@ const shownOf = children => [children].flat(Infinity).filter(child => ![undefine
 const h = (tag, attributes, ...children) => fill(document.createElement(tag), attributes, children);
 const s = (tag, attributes, ...children) => fill(document.createElementNS(SVG, tag), attributes, children);
 
+/** Makes these the children of an element. One that is there already isn't taken out: to put it back takes a browser as
+ * long as to draw it. */
+function keepChildren(element, wanted) {
+  const stay = new Set(wanted);
+  for (const each of [...element.children]) if (!stay.has(each)) each.remove();
+  for (const [index, each] of wanted.entries()) {
+    if (element.children[index] !== each) element.insertBefore(each, element.children[index] ?? null);
+  }
+}
+
 /** A text of docs/, which has code between backquotes. */
 const prose = text => text.split("`").map((part, index) => index % 2 ? h("code", {}, part) : part);
 

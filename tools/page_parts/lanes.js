@@ -86,7 +86,7 @@ function waysOf(run) {
 
 class Lanes {
   constructor(run) {
-    Object.assign(this, { run, rows: rowsOf(run), ways: waysOf(run), width: 40 });
+    Object.assign(this, { run, rows: rowsOf(run), ways: waysOf(run), width: 40, drawn: [0, 0], kept: new Map() });
     this.rowAt = new Map(this.rows.flatMap(({ at }, row) => at === undefined ? [] : [[at, row]]));
     this.names = h("div", { class: "names", "aria-hidden": "true" });
     this.lines = h("div", { role: "presentation", onclick: pressed => this.press(pressed) });
@@ -94,7 +94,7 @@ class Lanes {
     this.spacer = h("div", { class: "spacer", role: "presentation", style: { height: `${this.rows.length * ROW}px` } },
       this.lines, this.graph);
     this.scroller = h("div", { class: "scroller", role: "listbox", tabindex: 0, "aria-label": "Events",
-      onscroll: () => requestAnimationFrame(() => this.draw()) }, this.spacer);
+      onscroll: () => requestAnimationFrame(() => this.scrolled()) }, this.spacer);
     this.printed = h("div", { class: "printed" });
   }
 
@@ -122,6 +122,7 @@ class Lanes {
     const [least, most, part] = areFew ? [24, 64, .34] : [7.2, 24, .56];
     const room = (wide - LEFT - Math.min(WORDS, wide * PART_OF_WORDS)) / count;
     this.width = Math.min(room, Math.max(least, Math.min(most, wide * part / count)));
+    this.kept.clear();
     const longest = Math.max(...names.map(name => name.length)), isTall = this.width < LETTER * (longest + 1);
     this.names.classList.toggle("tall", isTall);
     this.names.classList.toggle("tiny", this.width < 10);
@@ -132,13 +133,25 @@ class Lanes {
       h("span", { class: r % step ? "between" : "", colour: colours[r], style: { left: `${this.x(r)}px` } }, name)));
   }
 
+  /** From which row to which one the scroller shows them, with some more above and below. */
+  inSight(more) {
+    const top = this.scroller.scrollTop, high = this.scroller.clientHeight || 600;
+    const first = Math.floor(top / ROW) - more, behind = Math.ceil((top + high) / ROW) + more;
+    return [Math.max(0, first), Math.min(this.rows.length, behind)];
+  }
+
+  /** Draws again where rows have come into sight that aren't drawn. */
+  scrolled() {
+    const [from, to] = this.inSight(0), [first, behind] = this.drawn;
+    if (from < first || to > behind) this.draw();
+  }
+
   /** Draws the rows that are seen. Without rows it draws the graph alone: the pointer may be on a row. */
   draw(withRows = true) {
-    const top = this.scroller.scrollTop, high = this.scroller.clientHeight || 600;
-    const from = Math.max(0, Math.floor(top / ROW) - OVERSCAN);
-    const to = Math.min(this.rows.length, Math.ceil((top + high) / ROW) + OVERSCAN);
+    const [from, to] = withRows ? this.inSight(OVERSCAN) : this.drawn;
+    this.drawn = [from, to];
     const hadFocus = document.activeElement === this.scroller, at = Math.min(chosen.at, this.run.last);
-    if (withRows) this.lines.replaceChildren(...this.rowsBetween(from, to, at));
+    if (withRows) keepChildren(this.lines, this.rowsInSight(from, to, at));
     this.graph.replaceChildren(...this.graphBetween(from, to, at));
     this.scroller.setAttribute("aria-activedescendant", `row${this.run.side}-${this.rowAt.get(at)}`);
     const actor = this.run.actorAt(at);
@@ -154,8 +167,23 @@ class Lanes {
     else if (y + ROW * 3 > scrollTop + clientHeight) scroller.scrollTop = y + ROW * 4 - clientHeight;
   }
 
+  get inset() {
+    return LEFT + this.width * names.length + 8;
+  }
+
+  /** The rows that are seen. One that shows what it did stays the same element. */
+  rowsInSight(from, to, at) {
+    const { inset, kept } = this;
+    const rows = this.rows.slice(from, to).map((row, offset) => {
+      const shows = `${from + offset} ${row.at === at ? "now" : row.at > at}`;
+      return [shows, kept.get(shows) ?? this.row(row, from + offset, inset, at)];
+    });
+    this.kept = new Map(rows);
+    return rows.map(([, row]) => row);
+  }
+
   rowsBetween(from, to, at) {
-    const inset = LEFT + this.width * names.length + 8;
+    const { inset } = this;
     return this.rows.slice(from, to).map((row, offset) => this.row(row, from + offset, inset, at));
   }
 

@@ -145,11 +145,12 @@ function play(stop = false) {
 function drawPosition() {
   const run = theRun(), at = positionOn(run), isStuck = run.isStuck(at);
   const name = isStuck ? run.numberOf(at) : run.nameOf(at);
-  const total = run.first + run.last + run.more - given, event = run.eventAt(at);
+  const isGiven = isStuck && run.first + at <= given, event = run.eventAt(at);
+  const whole = isGiven ? "" : ` of ${run.first + run.last + run.more - given}`;
   const said = isStuck ? `stuck: ${run.stuck.stuck} ${run.stuck.cause}` : event ? event.e : "start";
   slider.value = chosen.at;
-  slider.setAttribute("aria-valuetext", `${name} of ${total}, ${said}`);
-  whereabouts.replaceChildren(h("b", {}, name), h("span", {}, ` of ${total}${isStuck ? ", stuck" : ""}`));
+  slider.setAttribute("aria-valuetext", `${name}${whole}, ${said}`);
+  whereabouts.replaceChildren(h("b", {}, name), h("span", {}, `${whole}${isStuck ? ", stuck" : ""}`));
   whereabouts.classList.toggle("bad", isStuck);
   live.textContent = `${name}: ${said}`;
   buttons.first.disabled = buttons.back.disabled = chosen.at === 0;

@@ -1,5 +1,5 @@
 -- About Laws: arguments without a fault are a command.
-use Rattle.std.proofs.Common.{◌≡◌, ◌∙◌, ◌&&◌, ◌||◌, List, [], ◌∷◌, Bool, true, false, not, Option, Some, None, if◌then◌else◌, refl, ap, find, codes, is_some, option_map}
+use Rattle.std.proofs.Common.{◌≡◌, ◌∙◌, ◌&&◌, ◌||◌, List, [], ◌∷◌, Bool, true, false, not, Option, Some, None, if◌then◌else◌, refl, sym, ap, subst, find, codes, is_some, option_map}
 use Rattle.std.specs.Prelude.{IfSome, fold}
 use Rattle.std.specs.Option.{option_and_then, option_map_or}
 use Rattle.std.specs.Str.Parse.{digits_value, without_leading_plus}
@@ -13,10 +13,10 @@ use Rattle.clap.specs.Walk.{Row, Text, answers_to, finished, first_of, has_row, 
 use Rattle.clap.specs.declared.error.kind.ErrorKind.TheVariants as K
 use Rattle.clap.specs.declared.parser.matches.ValueSource.TheVariants.{DefaultValue}
 use Rattle.jc_cli.specs.Laws.{FaultlessAreOrders}
-use Rattle.jc_cli.specs.Program.{bare, journal_app, plain_app, program, run_app, threads_app, view_app, weave_app}
-use Rattle.jc_cli.specs.Arguments.{with_help_meant, is_traced, has_effects, limit_given, seed_given, weave_by, documents, order_by, order_in, task_in, with_file, words_order}
+use Rattle.jc_cli.specs.Program.{bare, journal_app, plain_app, program, run_app, serve_app, threads_app, view_app, weave_app}
+use Rattle.jc_cli.specs.Arguments.{with_help_meant, is_traced, has_effects, limit_given, seed_given, weave_by, documents, order_by, order_in, task_in, file_in, with_file, words_order}
 use Rattle.jc_cli.specs.declared.order.Task.{Task}
-use Rattle.jc_cli.specs.declared.order.Task.TheVariants.{Show, Debug, Threads, Weave}
+use Rattle.jc_cli.specs.declared.order.Task.TheVariants.{Show, Debug, Serve, Threads, Weave}
 use Rattle.jc_cli.specs.declared.order.View.TheVariants.{Check, Print, Run, Journal}
 use Rattle.jc_cli.proofs.ArgumentsLemmas.{AreReadable, Each, IsSound, built_file, built_at, built_effects, built_help, built_limit, built_seed, built_trace, failed, first_there, found, given_row, kept_row, neither, row_by_default, sound_at, sound_effects, sound_file, sound_help, sound_limit, sound_seed, sound_trace, unfilled}
 use Rattle.jc_cli.proofs.FaultlessLemmas.{of_level}
@@ -83,34 +83,38 @@ ordered_by t file (task, is) (text, same) = (record { task = task; file = text }
 abbrev Orders : Shape → Type 0
 Orders s = (words : List Text) → level_fault s [] nothing_held words false [] ≡ [] → IsThere (order_in (rows_at s words))
 
--- so it is where the arguments are sound, a file is wanted, and readable rows give a task
-orders_by : (s : Shape) → Each IsSound s.rules → ((rows : List Row) → check_fault s rows false ≡ [] → is_given (codes "file") rows ≡ true)
+-- so it is where the arguments are sound, and readable rows give a file and a task
+orders_by : (s : Shape) → Each IsSound s.rules → ((rows : List Row) → AreReadable rows → check_fault s rows false ≡ [] → IsThere (file_in s.name rows))
     → ((before : List Row) → AreReadable (fold with_default before s.rules) → IsThere (task_in s.name (fold with_default before s.rules))) → Orders s
-orders_by s sound wants_file has_task words e =
+orders_by s sound has_file has_task words e =
     let level = of_level s words sound e in
     let before = (settled s.rules (walk s.rules [] nothing_held words).held).rows in
     let rows = fold with_default before s.rules in
-    ordered_by (task_in s.name rows) (first_of (codes "file") rows) (has_task before level.0) (file_there rows level.0 (wants_file rows level.1))
+    ordered_by (task_in s.name rows) (file_in s.name rows) (has_task before level.0) (has_file rows level.0 level.1)
+
+-- the file of a command that wants one
+wanted_file : (rows : List Row) → AreReadable rows → (if not (is_given (codes "file") rows) || false then K.MissingRequiredArgument ∷ [] else []) ≡ [] → IsThere (first_of (codes "file") rows)
+wanted_file rows h e = file_there rows h (was_given (is_given (codes "file") rows) e)
 
 -- a command as it is built
 abbrev command : App → Shape
 command a = built_leaf (inherited bare.top a.top)
 
 -- a command with nothing but its file
-of_plain : (name : Text) (task : Task) → ((rows : List Row) → task_in name rows ≡ Some task) → Orders (command (plain_app name))
-of_plain name task is =
-    orders_by (command (plain_app name)) (sound_file, (sound_help, tt)) (λ rows e. was_given (is_given (codes "file") rows) e) (λ before h. (task, is (fold with_default before (built_file ∷ built_help ∷ []))))
+of_plain : (name : Text) (task : Task) → ((rows : List Row) → task_in name rows ≡ Some task) → ((rows : List Row) → file_in name rows ≡ first_of (codes "file") rows) → Orders (command (plain_app name))
+of_plain name task is filed =
+    orders_by (command (plain_app name)) (sound_file, (sound_help, tt)) (λ rows h e. subst IsThere (sym (filed rows)) (wanted_file rows h e)) (λ before h. (task, is (fold with_default before (built_file ∷ built_help ∷ []))))
 
 -- the command `run`
 of_run : Orders (command run_app)
 of_run =
-    orders_by (command run_app) (sound_trace, (sound_file, (sound_help, tt))) (λ rows e. was_given (is_given (codes "file") rows) e)
+    orders_by (command run_app) (sound_trace, (sound_file, (sound_help, tt))) wanted_file
     (λ before h. (Show (Run (is_traced (fold with_default before (built_trace ∷ built_file ∷ built_help ∷ [])))), refl))
 
 -- the command `journal`
 of_journal : Orders (command journal_app)
 of_journal =
-    orders_by (command journal_app) (sound_trace, (sound_effects, (sound_file, (sound_help, tt)))) (λ rows e. was_given (is_given (codes "file") rows) e)
+    orders_by (command journal_app) (sound_trace, (sound_effects, (sound_file, (sound_help, tt)))) wanted_file
     (λ before h.
     let rows = fold with_default before (built_trace ∷ built_effects ∷ built_file ∷ built_help ∷ []) in
     (Show (Journal (is_traced rows) (has_effects rows)), refl))
@@ -126,7 +130,7 @@ limit_row before =
 -- the command `threads`
 of_threads : Orders (command threads_app)
 of_threads =
-    orders_by (command threads_app) (sound_limit, (sound_file, (sound_help, tt))) (λ rows e. was_given (is_given (codes "file") rows) e)
+    orders_by (command threads_app) (sound_limit, (sound_file, (sound_help, tt))) wanted_file
     (λ before h. limit_there (fold with_default before (built_limit ∷ built_file ∷ built_help ∷ [])) h (limit_row before))
 
 -- so has the number of events
@@ -140,7 +144,7 @@ at_row before =
 -- the command `view`
 of_view : Orders (command view_app)
 of_view =
-    orders_by (command view_app) (sound_at, (sound_file, (sound_help, tt))) (λ rows e. was_given (is_given (codes "file") rows) e)
+    orders_by (command view_app) (sound_at, (sound_file, (sound_help, tt))) wanted_file
     (λ before h. documents_there (fold with_default before (built_at ∷ built_file ∷ built_help ∷ [])) h (at_row before))
 
 -- so have a seed and a limit beside each other
@@ -170,8 +174,12 @@ module _ (before : List Row) where
 -- the command `weave`
 of_weave : Orders (command weave_app)
 of_weave =
-    orders_by (command weave_app) (sound_seed, (sound_limit, (sound_file, (sound_help, tt)))) (λ rows e. was_given (is_given (codes "file") rows) e)
+    orders_by (command weave_app) (sound_seed, (sound_limit, (sound_file, (sound_help, tt)))) wanted_file
     (λ before h. weave_there (fold with_default before (built_seed ∷ built_limit ∷ built_file ∷ built_help ∷ [])) h (woven_seed before) (woven_limit before))
+
+-- the command `serve`, which has no file
+of_serve : Orders (command serve_app)
+of_serve = orders_by (command serve_app) (sound_help, tt) (λ rows h e. ([], refl)) (λ before h. (Serve, refl))
 
 -- ---- the command that words name
 
@@ -209,8 +217,8 @@ by_words a words each wanted e =
 each_command : Each Orders (built program).subs
 unfolding program clap_on_literals
 each_command = (
-  of_plain (codes "check") (Show Check) (λ rows. refl),
-  (of_plain (codes "print") (Show Print) (λ rows. refl), (of_run, (of_view, (of_journal, (of_plain (codes "debug") Debug (λ rows. refl), (of_threads, (of_weave, tt))))))),
+  of_plain (codes "check") (Show Check) (λ rows. refl) (λ rows. refl),
+  (of_plain (codes "print") (Show Print) (λ rows. refl) (λ rows. refl), (of_run, (of_view, (of_journal, (of_plain (codes "debug") Debug (λ rows. refl) (λ rows. refl), (of_serve, (of_threads, (of_weave, tt)))))))),
 )
 
 -- a command is wanted

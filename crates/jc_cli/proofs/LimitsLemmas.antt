@@ -1,5 +1,6 @@
--- About Arguments (limit_in, HasLimitInRange): the limits of texts and of commands, by clap's test of a value.
-use Rattle.std.proofs.Common.{◌≡◌, ◌≤◌, ◌<◌, ◌^◌, ℕ, List, Bool, true, false, if◌then◌else◌, Option, Some, None, option_map, codes, refl, sym, ap, subst, arith}
+-- About Arguments (limit_in, HasLimitInRange, file_in): the limits of texts and of commands, by clap's test of a value;
+-- that `serve` has no file.
+use Rattle.std.proofs.Common.{◌≡◌, ◌≤◌, ◌<◌, ◌^◌, ℕ, List, [], Bool, true, false, if◌then◌else◌, Option, Some, None, option_map, codes, refl, sym, ◌∙◌, ap, subst, arith}
 use Rattle.std.proofs.lemmas.Option.{cond_some, option_and_then_some, same_Some}
 use Rattle.std.specs.Option.{option_and_then}
 use Rattle.std.specs.Str.{bytes_eq}
@@ -9,10 +10,10 @@ use Rattle.clap.specs.ValueTests.{is_unsigned_in}
 use Rattle.clap.proofs.ValueTestLemmas.{accepts-Accepts, Accepts-accepts}
 use Rattle.clap.specs.Words.{Row, Text, first_of}
 use Rattle.clap.specs.declared.builder.value_parser.ValueParser.TheVariants.{Unsigned}
-use Rattle.jc_cli.specs.Arguments.{is_traced, has_effects, limit_in, limit_given, seed_in, seed_given, weave_by, order_in, task_in, with_file, documents, HasLimitInRange}
+use Rattle.jc_cli.specs.Arguments.{is_traced, has_effects, limit_in, limit_given, seed_in, seed_given, weave_by, order_in, task_in, file_in, with_file, documents, HasLimitInRange}
 use Rattle.jc_cli.specs.declared.order.Order.{Order}
 use Rattle.jc_cli.specs.declared.order.Task.{Task}
-use Rattle.jc_cli.specs.declared.order.Task.TheVariants.{Show, Debug, Threads, Weave}
+use Rattle.jc_cli.specs.declared.order.Task.TheVariants.{Show, Debug, Serve, Threads, Weave}
 use Rattle.jc_cli.specs.declared.order.View.TheVariants.{Check, Print, Run, Journal}
 
 -- ---- the limit of a text
@@ -91,8 +92,9 @@ of_task name rows =
     (by_test (bytes_eq name (codes "view")) (of_documents (limit_given rows))
     (by_test (bytes_eq name (codes "journal")) (one (Show (Journal (is_traced rows) (has_effects rows))) tt)
     (by_test (bytes_eq name (codes "debug")) (one Debug tt)
+    (by_test (bytes_eq name (codes "serve")) (one Serve tt)
     (by_test (bytes_eq name (codes "threads")) (of_rows rows)
-    (by_test (bytes_eq name (codes "weave")) (of_weave (seed_given rows) (limit_given rows) (given_in_range rows)) none)))))))
+    (by_test (bytes_eq name (codes "weave")) (of_weave (seed_given rows) (limit_given rows) (given_in_range rows)) none))))))))
 
 of_file : (t : Option Task) (file : Option Text) (o : Order) → IsInRange t → with_file t file ≡ Some o → HasLimitInRange o.task
 of_file (Some task) (Some file) o p e =
@@ -102,4 +104,64 @@ of_file None file o p e = cc
 
 pub order_in_range : (s : Option (Text × List Row)) (o : Order) → option_and_then order_in s ≡ Some o → HasLimitInRange o.task
 order_in_range None o e = cc
-order_in_range (Some s) o e = of_file (task_in s.0 s.1) (first_of (codes "file") s.1) o (of_task s.0 s.1) e
+order_in_range (Some s) o e = of_file (task_in s.0 s.1) (file_in s.0 s.1) o (of_task s.0 s.1) e
+
+-- ---- the file of an order
+
+-- it isn't `serve`
+abbrev IsOther : Option Task → Type 0
+IsOther o = o ≡ Some Serve → ⊥
+
+both_other : {a b : Option Task} (t : Bool) → IsOther a → IsOther b → IsOther (if t then a else b)
+both_other true p q = p
+both_other false p q = q
+
+unserved : {b : Option Task} (t : Bool) → t ≡ false → IsOther b → IsOther (if t then Some Serve else b)
+unserved true e q = let f : true ≡ false = e in cc
+unserved false e q = q
+
+documents_other : (o : Option ℕ) → IsOther (option_map documents o)
+documents_other None e = cc
+documents_other (Some n) e = cc
+
+threads_other : (o : Option ℕ) → IsOther (option_map Threads o)
+threads_other None e = cc
+threads_other (Some n) e = cc
+
+weave_other : (seed limit : Option ℕ) → IsOther (weave_by seed limit)
+weave_other None limit e = cc
+weave_other (Some s) None e = cc
+weave_other (Some s) (Some n) e = cc
+
+other_task : (name : Text) (rows : List Row) → bytes_eq name (codes "serve") ≡ false → IsOther (task_in name rows)
+other_task name rows otherwise =
+    both_other (bytes_eq name (codes "check")) (λ e. cc)
+    (both_other (bytes_eq name (codes "print")) (λ e. cc)
+    (both_other (bytes_eq name (codes "run")) (λ e. cc)
+    (both_other (bytes_eq name (codes "view")) (documents_other (limit_given rows))
+    (both_other (bytes_eq name (codes "journal")) (λ e. cc)
+    (both_other (bytes_eq name (codes "debug")) (λ e. cc)
+    (unserved (bytes_eq name (codes "serve")) otherwise
+    (both_other (bytes_eq name (codes "threads")) (threads_other (limit_given rows))
+    (both_other (bytes_eq name (codes "weave")) (weave_other (seed_given rows) (limit_given rows)) (λ e. cc)))))))))
+
+taken_task : (t : Option Task) (file : Option Text) (o : Order) → with_file t file ≡ Some o → t ≡ Some o.task
+taken_task (Some task) (Some f) o e = ap (λ (x : Order). Some x.task) (same_Some _ o e)
+taken_task (Some task) None o e = cc
+taken_task None file o e = cc
+
+taken_file : (t : Option Task) (file : Option Text) (o : Order) → with_file t file ≡ Some o → file ≡ Some o.file
+taken_file (Some task) (Some f) o e = ap (λ (x : Order). Some x.file) (same_Some _ o e)
+taken_file (Some task) None o e = cc
+taken_file None file o e = cc
+
+without_file : (name : Text) (rows : List Row) (o : Order) (t : Bool) → bytes_eq name (codes "serve") ≡ t → with_file (task_in name rows) (file_in name rows) ≡ Some o → o.task ≡ Serve → o.file ≡ []
+without_file name rows o true is e serves =
+    let none : file_in name rows ≡ Some [] = ap (λ (b : Bool). if b then Some [] else first_of (codes "file") rows) is in
+    same_Some o.file [] (sym (taken_file (task_in name rows) (file_in name rows) o e) ∙ none)
+without_file name rows o false is e serves = absurd (other_task name rows is (taken_task (task_in name rows) (file_in name rows) o e ∙ ap Some serves))
+
+-- `serve` has none
+pub serve_has_no_file : (s : Option (Text × List Row)) (o : Order) → option_and_then order_in s ≡ Some o → o.task ≡ Serve → o.file ≡ []
+serve_has_no_file None o e serves = cc
+serve_has_no_file (Some s) o e serves = without_file s.0 s.1 o (bytes_eq s.0 (codes "serve")) refl e serves

@@ -11,7 +11,7 @@ use Rattle.jc_rules.specs.declared.limits.TheConstants.{MAX_EVENTS, MAX_THREAD_E
 use Rattle.jc_cli.specs.Program.{program}
 use Rattle.jc_cli.specs.declared.order.Order.{Order}
 use Rattle.jc_cli.specs.declared.order.Task.{Task}
-use Rattle.jc_cli.specs.declared.order.Task.TheVariants.{Show, Debug, Threads, Weave}
+use Rattle.jc_cli.specs.declared.order.Task.TheVariants.{Show, Debug, Serve, Threads, Weave}
 use Rattle.jc_cli.specs.declared.order.View.TheVariants.{Check, Print, Run, Document, Journal}
 use Rattle.jc_cli.specs.declared.fault.WordsFault.{WordsFault}
 use Rattle.jc_cli.specs.declared.fault.WordsFault.TheVariants.{Help, Usage, Memory}
@@ -61,9 +61,14 @@ task_in name rows =
     else (if bytes_eq name (codes "view") then option_map documents (limit_given rows)
     else (if bytes_eq name (codes "journal") then Some (Show (Journal (is_traced rows) (has_effects rows)))
     else (if bytes_eq name (codes "debug") then Some Debug
+    else (if bytes_eq name (codes "serve") then Some Serve
     else (if bytes_eq name (codes "threads") then option_map Threads (limit_given rows)
     else (if bytes_eq name (codes "weave") then weave_by (seed_given rows) (limit_given rows)
-    else None)))))))
+    else None))))))))
+
+-- the file of the command with this name; `serve` has none, and an empty name stands for it
+abbrev pub file_in : Text → List Row → Option Text
+file_in name rows = if bytes_eq name (codes "serve") then Some [] else first_of (codes "file") rows
 
 abbrev pub with_file : Option Task → Option Text → Option Order
 with_file (Some task) (Some file) = Some (record { task = task; file = file })
@@ -71,7 +76,7 @@ with_file (Some task) None = None
 with_file None file = None
 
 abbrev pub order_in : (Text × List Row) → Option Order
-order_in s = with_file (task_in s.0 s.1) (first_of (codes "file") s.1)
+order_in s = with_file (task_in s.0 s.1) (file_in s.0 s.1)
 
 -- the command of arguments with these faults and these matches
 abbrev pub order_by : Kinds → Option (Text × List Row) → Option Order

@@ -55,6 +55,10 @@ view_app = with_rule (with_rule (new_app (codes "view")) at_rule) file_rule
 abbrev pub journal_app : App
 journal_app = with_rule (with_rule (with_rule (new_app (codes "journal")) trace_rule) effects_rule) file_rule
 
+-- it has no argument
+abbrev pub serve_app : App
+serve_app = new_app (codes "serve")
+
 abbrev pub threads_app : App
 threads_app = with_rule (with_rule (new_app (codes "threads")) limit_rule) file_rule
 
@@ -85,6 +89,6 @@ bare = record { top = bare_shape (new_app (codes "jsoncrdt")).top; subs = [] }
 
 unfoldable pub program : App
 program =
-    with_subcommand (with_subcommand (with_subcommand (with_subcommand (with_subcommand (with_subcommand
+    with_subcommand (with_subcommand (with_subcommand (with_subcommand (with_subcommand (with_subcommand (with_subcommand
     (with_subcommand (with_subcommand bare (plain_app (codes "check")).top) (plain_app (codes "print")).top) run_app.top)
-    view_app.top) journal_app.top) (plain_app (codes "debug")).top) threads_app.top) weave_app.top
+    view_app.top) journal_app.top) (plain_app (codes "debug")).top) serve_app.top) threads_app.top) weave_app.top

@@ -3,10 +3,10 @@
 
 ghost use Rattle.std.specs.Prelude.{◌≡◌, IfOk, false};
 ghost use Rattle.clap.specs.Words.{app_of, rule_of, new_app, with_rule};
-ghost use Rattle.jc_cli.specs.Program.{IsLocal, file_rule, trace_rule, effects_rule, limit_rule, seed_rule, plain_app, run_app, view_app, journal_app, threads_app, weave_app, program};
+ghost use Rattle.jc_cli.specs.Program.{IsLocal, file_rule, trace_rule, effects_rule, limit_rule, seed_rule, plain_app, run_app, view_app, journal_app, serve_app, threads_app, weave_app, program};
 
 use crate::help::{
-    ABOUT, CHECK, DEBUG, JOURNAL, PRINT, PROGRAM, RUN, THREADS, USAGE, VERSION, VIEW, WEAVE,
+    ABOUT, CHECK, DEBUG, JOURNAL, PRINT, PROGRAM, RUN, SERVE, THREADS, USAGE, VERSION, VIEW, WEAVE,
 };
 use clap::builder::ValueParser;
 use clap::{Arg, ArgAction, Command};
@@ -110,6 +110,15 @@ fn journal<'a>(alloc: Global) -> Result<Command<'a>, AllocError>
         .arg(file(alloc))
 }
 
+fn serve<'a>(alloc: Global) -> Command<'a>
+    ensures shape { app_of result ≡ serve_app }
+    ensures local { IsLocal result }
+{
+    Command::new(alloc, "serve")
+        .about("Answer the requests of a program, each by a line of JSON, from standard input")
+        .after_help(SERVE)
+}
+
 fn threads<'a>(alloc: Global) -> Result<Command<'a>, AllocError>
     ensures shape { IfOk result (λ c. app_of c ≡ threads_app) }
     ensures local { IfOk result IsLocal }
@@ -210,6 +219,8 @@ pub(crate) fn definition<'a>(alloc: Global) -> Result<Command<'a>, AllocError>
         DEBUG,
     )?;
     let top = top.subcommand(debug)?;
+    let serve = serve(alloc);
+    let top = top.subcommand(serve)?;
     let threads = threads(alloc)?;
     let top = top.subcommand(threads)?;
     let weave = weave(alloc)?;

@@ -14,7 +14,7 @@ pub(crate) const USAGE: &str = "jsoncrdt [COMMAND]\n       jsoncrdt help [COMMAN
 
 /// The command line in one line, where its parser has no text.
 pub(crate) const BRIEF: &str =
-    "Usage: jsoncrdt [check|print|run|view|journal|debug|threads|weave] [FILE]\n";
+    "Usage: jsoncrdt [check|print|run|view|journal|debug|serve|threads|weave] [FILE]\n";
 
 /// The help of the program.
 pub(crate) const PROGRAM: &str =
@@ -58,7 +58,8 @@ Statuses:\n  \
 2  the arguments are wrong: no such command or option, no file, a number out of its range,\n     \
 or an argument that isn't UTF-8\n  \
 3  an event was stuck, since no rule allows it; a line says why\n  \
-4  a read or a write failed, or a session had too many lines\n  \
+4  a read or a write failed, a session had too many lines, or the input of serve ended within a\n     \
+text or had too many requests\n  \
 5  there was no memory, or a thread could not be made";
 
 /// The help of `check`.
@@ -184,6 +185,25 @@ Statuses:\n  \
 4  a read or a write failed\n  \
 5  there was no memory";
 
+/// The help of `serve`.
+pub(crate) const SERVE: &str =
+    "It is for programs: suites, editors, pages, other tools. Each line of standard input is a request,\n\
+and is answered by one line of JSON before the next one is read. docs/PROGRAMS.md in the repository\n\
+says what can be asked, and what is answered.\n\
+It ends at `quit` or at the end of the input.\n\
+\n\
+Example:\n  \
+printf 'scenario 35\\njsoncrdt 1 replica a {} schedule {}where\\n' | jsoncrdt serve\n\
+prints\n  \
+{\"commands\":0,\"events\":0,\"given\":0,\"replicas\":1}\n  \
+{\"at\":0,\"of\":0}\n\
+\n\
+Statuses:\n  \
+0  done, also after help\n  \
+2  the arguments are wrong\n  \
+4  a read or a write failed, the input ended within a text, or there were too many requests\n  \
+5  there was no memory";
+
 /// The help of `debug`.
 pub(crate) const DEBUG: &str =
     "A scenario is a text with a script of commands for each replica, and a schedule of the events\n\
@@ -283,7 +303,9 @@ waits, before it receives, until no other one has anything to do before. So one 
 of each script is enough for all to receive what the others sent. A stuck event isn't in the\n\
 schedule.\n\
 The same seed gives the same schedule, on any machine. Put yields between commands: with all commands\n\
-first, and one `yield` last, all is concurrent in whatever order it is executed.\n\
+first, and one `yield` last, all is concurrent in whatever order it is executed. A command that\n\
+needs what others made is stuck where that isn't there yet. Where each seed ends so, give it as the\n\
+past, in a block `given { .. }`, or put more yields before the command.\n\
 Given events, of version 2, run before any replica is drawn. Where one is stuck none is: its number\n\
 and why it is stuck are printed, and nothing goes to standard error.\n\
 \n\

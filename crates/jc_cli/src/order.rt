@@ -35,6 +35,8 @@ pub enum Task {
     Show(View),
     /// Debug its run: answer the lines of standard input.
     Debug,
+    /// Answer the requests of a program, from standard input. There is no file: its name is empty.
+    Serve,
     /// Run each replica in a thread of its own, and print the scenario with the schedule that they made.
     Threads {
         /// The number of events executed by each replica at most.

@@ -6,7 +6,7 @@ ghost use Rattle.std.specs.Str.{bytes_eq};
 ghost use Rattle.clap.specs.Words.{FailsBy, fault_of, first_of, found_of, rows_of, subcommand_of, subcommand_rows_of};
 ghost use Rattle.jc_cli.specs.Program.{program};
 ghost use Rattle.jc_cli.specs.declared.fault.WordsFault.TheVariants.{Memory as NoMemory};
-ghost use Rattle.jc_cli.specs.Arguments.{has_flag, is_traced, has_effects, limit_in, limit_given, seed_in, seed_given, weave_by, task_in, order_in, asked_of, with_help_meant, words_order, AsksHelp, HasLimitInRange, HasText, IsFaultless, IsWordsFault};
+ghost use Rattle.jc_cli.specs.Arguments.{has_flag, is_traced, has_effects, limit_in, limit_given, seed_in, seed_given, weave_by, task_in, file_in, order_in, asked_of, with_help_meant, words_order, AsksHelp, HasLimitInRange, HasText, IsFaultless, IsWordsFault};
 
 use crate::definition::definition;
 use crate::fault::{WordsFault, fault_by};
@@ -157,6 +157,7 @@ fn task_of(name: &str, matches: &ArgMatches<'_>) -> Option<Task>
             effects: has_flag(matches, "effects"),
         })),
         "debug" => Some(Task::Debug),
+        "serve" => Some(Task::Serve),
         "threads" => match limit_of(matches) {
             Some(limit) => Some(Task::Threads { limit }),
             None => None,
@@ -164,6 +165,16 @@ fn task_of(name: &str, matches: &ArgMatches<'_>) -> Option<Task>
         "weave" => weave_by(seed_of(matches), limit_of(matches)),
         _ => None,
     }
+}
+
+/// The file of the command with this name and these matches. `serve` has none, and an empty name stands for it.
+fn file_of<'a>(name: &str, matches: &'a ArgMatches<'_>) -> Option<&'a str>
+    ensures { option_map (λ file. file.now) result ≡ file_in name.now (rows_of (found_of matches.now)) }
+{
+    if name == "serve" {
+        return Some("");
+    }
+    matches.get_str("file")
 }
 
 /// The command of matches, with its file. There is none where the matches lack the command, its limit or its file.
@@ -176,7 +187,7 @@ fn order_matched(alloc: Global, matches: &ArgMatches<'_>) -> Result<Option<Order
     let Some(task) = task_of(name, inner) else {
         return Ok(None);
     };
-    let Some(file) = inner.get_str("file") else {
+    let Some(file) = file_of(name, inner) else {
         return Ok(None);
     };
     let file = copied(alloc, file)?;
@@ -198,6 +209,8 @@ pub fn order_of(alloc: Global, words: &[String]) -> Result<Order, WordsFault>
     ensures text { IfErr result HasText }
     // A limit is from 0 to 100,000.
     ensures limit { IfOk result (λ order. HasLimitInRange order.task) }
+    // `serve` has no file.
+    ensures served { IfOk result (λ order. order.task ≡ Task.Serve → order.file ≡ []) }
 {
     if words.is_empty() {
         let file = copied(alloc, "-")?;

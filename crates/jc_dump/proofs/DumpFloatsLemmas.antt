@@ -3,6 +3,7 @@ use Rattle.std.proofs.Common.{◌≡◌, ℕ, List, [], ◌∷◌, ◌++◌, map
 use Rattle.serde_json.specs.Data.{Data}
 use Rattle.serde_json.specs.Written.{has_float}
 use Rattle.jc_rules.specs.declared.id.Id.{Id}
+use Rattle.jc_rules.specs.declared.operation.Cursor.{Cursor}
 use Rattle.jc_rules.specs.declared.value.Value.{Value}
 use Rattle.jc_rules.specs.Context.{Context}
 use Rattle.jc_rules.specs.State.{Bound, ACursor, Names, Pairs}
@@ -11,7 +12,7 @@ use Rattle.jc_json.proofs.JsonFloatsLemmas.{object_float, all-map, texts_float, 
 use Rattle.jc_cursor.specs.Bounds.{vars_of}
 use Rattle.jc_dump.specs.declared.dump.Shown.{Shown}
 use Rattle.jc_dump.specs.Dump.{cursor_data, pairs_data, bound_data, var_member, vars_data}
-use Rattle.jc_dump.specs.DumpParts.{shown_members}
+use Rattle.jc_dump.specs.DumpParts.{shown_members, shown_briefly}
 
 pairs_float : (names : List (List ℕ)) (pairs : List (Id × Value)) → has_float (pairs_data names pairs) ≡ false
 pairs_float names [] = refl
@@ -20,8 +21,11 @@ pairs_float names (e ∷ es) = rw (value_float e.1) (pairs_float names es)
 one_float : (k : List ℕ) (d : Data) → has_float d ≡ false → has_float (object_of ((k, d) ∷ [])) ≡ false
 one_float k d h = object_float ((k, d) ∷ []) (h, tt)
 
-bound_float : (names : List (List ℕ)) (b : Bound) → has_float (bound_data names b) ≡ false
-bound_float names (ACursor c) = one_float (codes "cursor") (cursor_data names c) (texts_float (map (λ t. tagged_text names t) c.path ++ key_text names c.last ∷ []))
+pub cursor_float : (names : List (List ℕ)) (c : Cursor) → has_float (cursor_data names c) ≡ false
+cursor_float names c = texts_float (map (λ t. tagged_text names t) c.path ++ key_text names c.last ∷ [])
+
+pub bound_float : (names : List (List ℕ)) (b : Bound) → has_float (bound_data names b) ≡ false
+bound_float names (ACursor c) = one_float (codes "cursor") (cursor_data names c) (cursor_float names c)
 bound_float names (Names keys) = one_float (codes "keys") (texts_data keys) (texts_float keys)
 bound_float names (Pairs pairs) = one_float (codes "values") (pairs_data names pairs) (pairs_float names pairs)
 
@@ -33,3 +37,9 @@ unfolding shown_members
 shown_float names shown tree =
     object_float (shown_members names shown tree)
     (refl, (refl, (refl, (ids_float names shown.ops.now, (ids_float names shown.queue.now, (ids_float names shown.recv.now, (ids_float names shown.send.now, (context_float names tree, (vars_float names (vars_of shown.vars.now.entries), tt)))))))))
+
+pub briefly_float : (names : List (List ℕ)) (shown : Shown) → has_float (object_of (shown_briefly names shown)) ≡ false
+unfolding shown_briefly
+briefly_float names shown =
+    object_float (shown_briefly names shown)
+    (refl, (refl, (refl, (ids_float names shown.ops.now, (ids_float names shown.queue.now, (ids_float names shown.recv.now, (ids_float names shown.send.now, (vars_float names (vars_of shown.vars.now.entries), tt))))))))

@@ -1,6 +1,7 @@
 -- The dump of a replica's state: one JSON object, and its line. The contract of `dump_replica` cites it.
 -- The list of names has the name of each replica at its number.
-use Rattle.std.specs.Prelude.{ℕ, List, [], ◌∷◌, ◌++◌, length, map, codes}
+use Rattle.std.specs.Prelude.{ℕ, List, [], ◌∷◌, ◌++◌, length, map, filter, not, codes}
+use Rattle.std.specs.Str.{bytes_eq}
 use Rattle.serde_json.specs.Data.{unsigned, Data, boolean, number, string, array, no_items, item}
 use Rattle.serde_json.specs.View.{items_of}
 use Rattle.serde_json.specs.Written.{compact_text}
@@ -60,3 +61,19 @@ dump_of names name A = object_of (dump_members names name A)
 -- the dump as compact JSON, and a line feed
 unfoldable pub dump_line : List (List ℕ) → List ℕ → State → List ℕ
 dump_line names name A = compact_text (dump_of names name A) ++ 10 ∷ []
+
+-- ---- parts alone, as compact JSON
+
+unfoldable pub cursor_text : List (List ℕ) → Cursor → List ℕ
+cursor_text names c = compact_text (cursor_data names c)
+
+unfoldable pub bound_text : List (List ℕ) → Bound → List ℕ
+bound_text names b = compact_text (bound_data names b)
+
+-- the members but for the tree
+abbrev pub brief_members : List (List ℕ) → List ℕ → State → List (List ℕ × Data)
+brief_members names name A = filter (λ m. not (bytes_eq m.0 (codes "tree"))) (dump_members names name A)
+
+-- the dump without its tree
+unfoldable pub brief_text : List (List ℕ) → List ℕ → State → List ℕ
+brief_text names name A = compact_text (object_of (brief_members names name A))

@@ -1,7 +1,10 @@
--- The parts of which the code makes a dump, for the contracts of dump.rt and vars.rt.
+-- The parts of which the code makes a dump, and how they are sent, for the contracts of dump.rt and vars.rt.
 use Rattle.std.specs.Prelude.{◌≡◌, ℕ, List, [], ◌∷◌, length, codes}
 use Rattle.std.specs.Borrow.{Bor}
+use Rattle.serde.specs.Event.{Log, Sends, Then, field_key}
+use Rattle.serde.specs.declared.name.Case.TheVariants.{AsIs}
 use Rattle.serde_json.specs.Data.{Data, unsigned, boolean, number, string}
+use Rattle.serde_json.specs.Events.{SendsValue}
 use Rattle.jc_rules.specs.Context.{Context}
 use Rattle.jc_rules.specs.State.{State}
 use Rattle.jc_json.specs.Json.{ids_data, context_data}
@@ -26,6 +29,34 @@ shown_members names shown tree =
     ∷ (codes "tree", context_data names tree)
     ∷ (codes "vars", vars_data names (vars_of shown.vars.now.entries))
     ∷ []
+
+-- the members without the tree, from the parts in memory
+unfoldable pub shown_briefly : List (List ℕ) → Shown → List (List ℕ × Data)
+shown_briefly names shown =
+    (codes "acted", boolean shown.acted)
+    ∷ (codes "left", number (unsigned shown.left))
+    ∷ (codes "name", string shown.name.now)
+    ∷ (codes "ops", ids_data names shown.ops.now)
+    ∷ (codes "queue", ids_data names shown.queue.now)
+    ∷ (codes "recv", ids_data names shown.recv.now)
+    ∷ (codes "send", ids_data names shown.send.now)
+    ∷ (codes "vars", vars_data names (vars_of shown.vars.now.entries))
+    ∷ []
+
+-- a member is sent: its name, then its value
+abbrev pub SendsMember : List ℕ → Data → Log → Log → Type 0
+SendsMember name d = Then (Sends (field_key name AsIs)) (SendsValue d)
+
+-- the members before the tree are sent one by one
+abbrev pub SendsBeforeTree : List (List ℕ) → Shown → Log → Log → Type 0
+SendsBeforeTree names shown =
+    Then (SendsMember (codes "acted") (boolean shown.acted)) (
+    Then (SendsMember (codes "left") (number (unsigned shown.left))) (
+    Then (SendsMember (codes "name") (string shown.name.now)) (
+    Then (SendsMember (codes "ops") (ids_data names shown.ops.now)) (
+    Then (SendsMember (codes "queue") (ids_data names shown.queue.now)) (
+    Then (SendsMember (codes "recv") (ids_data names shown.recv.now)) (
+    SendsMember (codes "send") (ids_data names shown.send.now)))))))
 
 -- The parts and the tree are those of the state.
 pub record HasParts (A : State) (shown : Shown) (tree : Context) : Type 0 where

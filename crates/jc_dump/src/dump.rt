@@ -4,10 +4,11 @@ ghost use Rattle.std.specs.Prelude.{◌≡◌, Ok, IfOk, OnOk, string_bytes};
 ghost use Rattle.serde.specs.Event.{Sends, Then, field_key};
 ghost use Rattle.serde.specs.declared.name.Case.TheVariants.{AsIs};
 ghost use Rattle.serde_json.specs.Events.{SendsValue};
+ghost use Rattle.jc_rules.specs.Context.{Context};
 ghost use Rattle.jc_rules.specs.State.{State};
 ghost use Rattle.jc_json.specs.Json.{ids_data, object_of};
-ghost use Rattle.jc_dump.specs.Dump.{dump_line};
-ghost use Rattle.jc_dump.specs.DumpParts.{shown_members, HasParts};
+ghost use Rattle.jc_dump.specs.Dump.{dump_line, brief_text};
+ghost use Rattle.jc_dump.specs.DumpParts.{shown_members, shown_briefly, SendsMember, SendsBeforeTree, HasParts};
 
 use crate::vars::send_vars;
 use jc_cursor::Bound;
@@ -54,15 +55,8 @@ impl<S: TreeStore> Described for Dump<'_, S> {
 impl<S: TreeStore> Serialize for Dump<'_, S> {
     /// Sends the members in the order of their names.
     fn serialize<W: Serializer>(&self, out: &mut W) -> Result<(), W::Error> {
-        let shown = self.shown;
         out.begin_map(Some(9))?;
-        send_member("acted", &shown.acted, out)?;
-        send_member("left", &shown.left, out)?;
-        send_member("name", &shown.name, out)?;
-        send_ids_member(self.alloc, self.names, "ops", shown.ops, out)?;
-        send_ids_member(self.alloc, self.names, "queue", shown.queue, out)?;
-        send_ids_member(self.alloc, self.names, "recv", shown.recv, out)?;
-        send_ids_member(self.alloc, self.names, "send", shown.send, out)?;
+        send_before_tree(self.alloc, self.names, self.shown, out)?;
         let tree = Tree {
             alloc: self.alloc,
             names: self.names,
@@ -70,9 +64,50 @@ impl<S: TreeStore> Serialize for Dump<'_, S> {
         };
         send_member("tree", &tree, out)?;
         out.key("vars")?;
-        send_vars(self.alloc, self.names, shown.vars, out)?;
+        send_vars(self.alloc, self.names, self.shown.vars, out)?;
         out.end_map()
     }
+}
+
+/// A replica's dump without its tree, which `serde` sends to a writer.
+#[derive(Drop)]
+struct Brief<'a> {
+    alloc: Global,
+    names: &'a [Text],
+    shown: &'a Shown<'a>,
+}
+
+impl Described for Brief<'_> {
+    ghost writes = { λ d. SendsValue (object_of (shown_briefly d.names.now d.shown.now)) };
+}
+
+impl Serialize for Brief<'_> {
+    /// Sends the members in the order of their names.
+    fn serialize<W: Serializer>(&self, out: &mut W) -> Result<(), W::Error> {
+        out.begin_map(Some(8))?;
+        send_before_tree(self.alloc, self.names, self.shown, out)?;
+        out.key("vars")?;
+        send_vars(self.alloc, self.names, self.shown.vars, out)?;
+        out.end_map()
+    }
+}
+
+/// Sends the members before the tree, in the order of their names.
+fn send_before_tree<W: Serializer>(
+    alloc: Global,
+    names: &[Text],
+    shown: &Shown,
+    out: &mut W,
+) -> Result<(), W::Error>
+    ensures { OnOk result (SendsBeforeTree names.now shown.now (W.written out.old) (W.written out.new)) }
+{
+    send_member("acted", &shown.acted, out)?;
+    send_member("left", &shown.left, out)?;
+    send_member("name", &shown.name, out)?;
+    send_ids_member(alloc, names, "ops", shown.ops, out)?;
+    send_ids_member(alloc, names, "queue", shown.queue, out)?;
+    send_ids_member(alloc, names, "recv", shown.recv, out)?;
+    send_ids_member(alloc, names, "send", shown.send, out)
 }
 
 /// Sends a member of an object: its name, then its value.
@@ -96,15 +131,14 @@ fn send_ids_member<W: Serializer>(
     ids: &[Id],
     out: &mut W,
 ) -> Result<(), W::Error>
-    ensures { OnOk result (Then (Sends (field_key name.now AsIs)) (SendsValue (ids_data names.now ids.now))
-        (W.written out.old) (W.written out.new)) }
+    ensures { OnOk result (SendsMember name.now (ids_data names.now ids.now) (W.written out.old) (W.written out.new)) }
 {
     out.key(name)?;
     send_ids(alloc, names, ids, out)
 }
 
 /// Returns the text. A dump can be refused for want of memory alone.
-fn unless_refused(text: Result<String, Error>) -> Result<String, AllocError>
+pub(crate) fn unless_refused(text: Result<String, Error>) -> Result<String, AllocError>
     ensures { IfOk result (λ s. text ≡ Ok s) }
 {
     match text {
@@ -133,4 +167,22 @@ pub(crate) fn dump_line_of<S: TreeStore>(
     let mut line = unless_refused(serde_json::to_string(alloc, &dump))?;
     line.push_str("\n")?;
     Ok(line)
+}
+
+/// Returns the dump of a replica without its tree, and without a line feed.
+pub(crate) fn brief_text_of(
+    alloc: Global,
+    names: &[Text],
+    shown: &Shown,
+) -> Result<String, AllocError>
+    ensures { IfOk result (λ s.
+        (A : State) (tree : Context) → HasParts A shown.now tree
+        → string_bytes s ≡ brief_text names.now shown.now.name.now A) }
+{
+    let brief = Brief {
+        alloc,
+        names,
+        shown,
+    };
+    unless_refused(serde_json::to_string(alloc, &brief))
 }

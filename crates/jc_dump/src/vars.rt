@@ -19,7 +19,11 @@ use std::alloc::{AllocError, Global};
 use std::collections::BTreeMap;
 
 /// Returns a cursor as a list: the texts of its path, then that of its last key.
-fn cursor_value(alloc: Global, names: &[Text], cursor: &Cursor) -> Result<Json, AllocError>
+pub(crate) fn cursor_value(
+    alloc: Global,
+    names: &[Text],
+    cursor: &Cursor,
+) -> Result<Json, AllocError>
     ensures { IfOk result (λ v. view v ≡ cursor_data names.now cursor.now) }
 {
     let mut texts: Vec<Json> = Vec::new(alloc);
@@ -63,7 +67,7 @@ fn pairs_value(alloc: Global, names: &[Text], pairs: &[(Id, Value)]) -> Result<J
 }
 
 /// Sends what a variable is bound to.
-fn send_bound<W: Serializer>(
+pub(crate) fn send_bound<W: Serializer>(
     alloc: Global,
     names: &[Text],
     bound: &Bound,

@@ -4,6 +4,7 @@ pub mod PartsPlacesLemmas
 pub mod PartsTextsLemmas
 pub mod PartsOrderLemmas
 pub mod PartsMembersLemmas
+pub mod PartsJoinedLemmas
 pub mod PartsKindsLemmas
 pub mod JsonFloatsLemmas
 pub mod GainsLemmas

@@ -1,5 +1,5 @@
 -- About Parts: the members of one kind, one key after the other in the order of their texts.
-use Rattle.std.proofs.Common.{◌≡◌, ◌≢◌, ℕ, List, [], ◌∷◌, ◌++◌, map, cond, Bool, true, false, Some, None, nat_cmp, nat_eq, string_bytes, refl, sym, ap, ◌∙◌, subst}
+use Rattle.std.proofs.Common.{◌≡◌, ◌≢◌, ℕ, List, [], ◌∷◌, ◌++◌, map, cond, Bool, true, false, Some, None, nat_cmp, nat_eq, refl, sym, ap, ◌∙◌, subst}
 use Rattle.std.specs.List.{AllByRecursion}
 use Rattle.std.specs.Ordering.{ordering_then, is_eq}
 use Rattle.std.specs.declared.cmp.Ordering.{Ordering}
@@ -158,12 +158,12 @@ pub record AreSoFar (named : Place → List Tagged → Type 0) (at : List Tagged
       ≡ put_all (map (member_of names (word_of kind)) (entries_at (keys_in all) (shown_in names kind c))) no_members)
   pub kinds : AllByRecursion (λ (m : Member). m.kind ≡ kind) ms
   pub rising : IsRising name_cmp (texts_of ms)
-  pub low : AllByRecursion (λ (t : LentText). AllByRecursion (λ (m : Member). name_cmp (string_bytes t.0.0) m.text.now ≢ Less) ms) left
+  pub low : AllByRecursion (λ (t : LentText). AllByRecursion (λ (m : Member). name_cmp t.0.0.now m.text.now ≢ Less) ms) left
   pub order : AreInOrder left
   pub parts : ArePartsAt named at c ms
 
 module _ (named : Place → List Tagged → Type 0) (at : List Tagged) (c : Context) (kind : Kind) where
-  none_low : (ts : Texts) → AllByRecursion (λ (t : LentText). AllByRecursion (λ (m : Member). name_cmp (string_bytes t.0.0) m.text.now ≢ Less) []) ts
+  none_low : (ts : Texts) → AllByRecursion (λ (t : LentText). AllByRecursion (λ (m : Member). name_cmp t.0.0.now m.text.now ≢ Less) []) ts
   none_low [] = tt
   none_low (t ∷ ts) = (tt, none_low ts)
 
@@ -177,10 +177,10 @@ module _ (named : Place → List Tagged → Type 0) (at : List Tagged) (c : Cont
     parts = tt;
   })
 
-  all_higher : (t : LentText) (rest : Texts) (ms : List Member) → AllByRecursion (λ (u : LentText). text_cmp t.0 u.0 ≡ Less) rest → AllByRecursion (λ (m : Member). name_cmp (string_bytes t.0.0) m.text.now ≢ Less) ms
-      → AllByRecursion (λ (u : LentText). AllByRecursion (λ (m : Member). name_cmp (string_bytes u.0.0) m.text.now ≢ Less) ms) rest
+  all_higher : (t : LentText) (rest : Texts) (ms : List Member) → AllByRecursion (λ (u : LentText). text_cmp t.0 u.0 ≡ Less) rest → AllByRecursion (λ (m : Member). name_cmp t.0.0.now m.text.now ≢ Less) ms
+      → AllByRecursion (λ (u : LentText). AllByRecursion (λ (m : Member). name_cmp u.0.0.now m.text.now ≢ Less) ms) rest
   all_higher t [] ms a l = tt
-  all_higher t (u ∷ rest) ms a l = (higher (string_bytes t.0.0) (string_bytes u.0.0) (nat_cmp t.0.1 u.0.1) ms a.0 l, all_higher t rest ms a.1 l)
+  all_higher t (u ∷ rest) ms a l = (higher t.0.0.now u.0.0.now (nat_cmp t.0.1 u.0.1) ms a.0 l, all_higher t rest ms a.1 l)
 
   module _ (t : LentText) (all left rest : Texts) (ms : List Member) (is : left ≡ t ∷ rest) where
     -- the next key has no such member
@@ -201,7 +201,7 @@ module _ (named : Place → List Tagged → Type 0) (at : List Tagged) (c : Cont
         }
 
     -- it has one
-    pub so_far_adds : (m : Member) → m.kind ≡ kind → m.text.now ≡ string_bytes t.0.0 → ((names : List (List ℕ)) → Some (part_data names c m.part) ≡ find key_cmp t.1.0.now (shown_in names kind c)) → IsPartAt named at c m.part
+    pub so_far_adds : (m : Member) → m.kind ≡ kind → m.text.now ≡ t.0.0.now → ((names : List (List ℕ)) → Some (part_data names c m.part) ≡ find key_cmp t.1.0.now (shown_in names kind c)) → IsPartAt named at c m.part
         → (new : List Member) → new ≡ with_last m ms → AreSoFar named at c kind all left ms → AreSoFar named at c kind all rest new
     so_far_adds m k e some p new w f =
         let g : AreSoFar named at c kind all (t ∷ rest) ms = subst (λ ts. AreSoFar named at c kind all ts ms) is f in

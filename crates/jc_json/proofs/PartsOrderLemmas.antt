@@ -1,12 +1,11 @@
 -- About Parts: keys that are sorted by their texts stand as they do where each is put in its place, one after the other.
-use Rattle.std.proofs.Common.{◌≡◌, ◌≢◌, ℕ, zero, suc, ◌+◌, ◌<◌, ◌≤◌, List, [], ◌∷◌, ◌++◌, map, length, get_or, Bool, true, false, eqb, eqb-true, ne_eqb, Contains, IsPermutation, IsSortedBy, is_lt, String, Global, Bor, string_bytes, string_cmp, nat_cmp, refl, sym, ap, ◌∙◌, subst, append_assoc, append-nil, arith}
+use Rattle.std.proofs.Common.{◌≡◌, ◌≢◌, ℕ, zero, suc, ◌+◌, ◌<◌, ◌≤◌, List, [], ◌∷◌, ◌++◌, map, length, get_or, Bool, true, false, eqb, eqb-true, ne_eqb, Contains, IsPermutation, IsSortedBy, is_lt, Bor, nat_cmp, refl, sym, ap, ◌∙◌, subst, append_assoc, append-nil, arith}
 use denote.Param.Members.{Mut}
 use Rattle.std.specs.List.{AllByRecursion, IsDistinct}
 use Rattle.std.specs.Ordering.{ordering_then}
 use Rattle.std.specs.declared.cmp.Ordering.{Ordering}
 use Rattle.std.specs.declared.cmp.Ordering.TheVariants.{Less, Equal, Greater}
 use Rattle.std.specs.Cmp.{IsTotalOrder, IsStrictWeakOrder, tied_itself, then_total, on_total, nat_cmp_total}
-use Rattle.std.specs.String.{string_cmp_total}
 use Rattle.std.specs.BTreeMap.{insert_entry}
 use Rattle.std.specs.Fn.{Called, ComparesAs}
 use Rattle.std.proofs.lemmas.Bool.{eqb-false}
@@ -17,10 +16,11 @@ use Rattle.std.proofs.lemmas.List.{map-append}
 use Rattle.std.proofs.lemmas.Map.Keys.{IsDistinct-head, IsDistinct-tail, IsDistinct-IsPermutation}
 use Rattle.std.proofs.lemmas.Map.Made.{Contains-tail}
 use Rattle.jc_rules.specs.declared.key.Key.{Key}
-use Rattle.jc_rules.specs.Order.{key_cmp}
+use Rattle.jc_rules.specs.Order.{key_cmp, name_cmp}
 use Rattle.jc_rules.specs.Entries.{IsRising}
 use Rattle.jc_rules.specs.Context.{Context}
 use Rattle.jc_rules.specs.WellFormed.{IsWellFormedContext}
+use Rattle.jc_rules.proofs.OrderLemmas.{names_total}
 use Rattle.jc_rules.proofs.RisingLemmas.{greater_less}
 use Rattle.jc_tree.specs.declared.store.Hint.{Hint}
 use Rattle.jc_tree.specs.Tree.{all_keys}
@@ -31,7 +31,7 @@ use Rattle.jc_json.proofs.PartsTextsLemmas.{over, goes_first, goes_on, all_inser
 -- ---- the order of the texts
 
 texts_total : IsTotalOrder text_cmp
-texts_total = then_total (on_total (λ (s : String Global × ℕ). s.0) string_cmp_total) (on_total (λ (s : String Global × ℕ). s.1) nat_cmp_total)
+texts_total = then_total (on_total (λ (s : Bor (List ℕ) × ℕ). s.0.now) names_total) (on_total (λ (s : Bor (List ℕ) × ℕ). s.1) nat_cmp_total)
 
 -- the test by which they are sorted
 abbrev pub is_below : LentText → LentText → Bool
@@ -46,13 +46,13 @@ pub sorted_by_texts : {F : Type 0} {g : Mut F (Bor LentText × (Bor LentText × 
 sorted_by_texts {g = g} {f = f} ts sorted h = sorted is_below below_ranks (always_returns_same g (λ a r. is_lt r ≡ is_below a.0.now a.1.0.now) f (λ a r f' k. (ap is_lt (h a r f' k).0, (h a r f' k).1)))
 
 -- neither above nor of the same number
-below_other : (s t : String Global × ℕ) → is_lt (text_cmp t s) ≡ false → eqb s.1 t.1 ≡ false → text_cmp s t ≡ Less
-below_other s t a d = go (string_cmp s.0 t.0) (nat_cmp s.1 t.1) refl refl
+below_other : (s t : Bor (List ℕ) × ℕ) → is_lt (text_cmp t s) ≡ false → eqb s.1 t.1 ≡ false → text_cmp s t ≡ Less
+below_other s t a d = go (name_cmp s.0.now t.0.now) (nat_cmp s.1 t.1) refl refl
   where
     above : text_cmp s t ≡ Greater → text_cmp s t ≡ Less
     above e = let f : text_cmp t s ≡ Less = greater_less texts_total s t e in let g : true ≡ false = sym (ap is_lt f) ∙ a in cc
 
-    go : (o p : Ordering) → string_cmp s.0 t.0 ≡ o → nat_cmp s.1 t.1 ≡ p → text_cmp s t ≡ Less
+    go : (o p : Ordering) → name_cmp s.0.now t.0.now ≡ o → nat_cmp s.1 t.1 ≡ p → text_cmp s t ≡ Less
     go Less p e f = ap (λ o. ordering_then o (nat_cmp s.1 t.1)) e
     go Greater p e f = above (ap (λ o. ordering_then o (nat_cmp s.1 t.1)) e)
     go Equal Less e f = ap (λ o. ordering_then o (nat_cmp s.1 t.1)) e ∙ f
@@ -97,9 +97,9 @@ module _ (names : List (List ℕ)) where
   pub from_begins : AreTextsFrom names [] []
   from_begins = record { texts = tt; numbers = tt; keys = refl }
 
-  pub from_goes_on : (ks : List Key) (n : ℕ) (ts : Texts) (s : String Global) (v : Bor Key × Hint) → length ts ≡ n → string_bytes s ≡ closed_text names v.0.now → AreTextsFrom names ks ts → AreTextsFrom names (ks ++ v.0.now ∷ []) (ts ++ ((s, n), v) ∷ [])
+  pub from_goes_on : (ks : List Key) (n : ℕ) (ts : Texts) (s : Bor (List ℕ)) (v : Bor Key × Hint) → length ts ≡ n → s.now ≡ closed_text names v.0.now → AreTextsFrom names ks ts → AreTextsFrom names (ks ++ v.0.now ∷ []) (ts ++ ((s, n), v) ∷ [])
   from_goes_on ks n ts s v e is f = record {
-    texts = all_end (λ (t : LentText). string_bytes t.0.0 ≡ closed_text names t.1.0.now) ts ((s, n), v) f.texts is;
+    texts = all_end (λ (t : LentText). t.0.0.now ≡ closed_text names t.1.0.now) ts ((s, n), v) f.texts is;
     numbers = numbered_end 0 ts ((s, n), v) f.numbers (omega (arith, e));
     keys = map-append (λ (t : LentText). t.1.0.now) ts (((s, n), v) ∷ []) ∙ ap (λ js. js ++ v.0.now ∷ []) f.keys;
   }
@@ -124,12 +124,12 @@ sorted_rises (t ∷ ts) a s = rises t (t ∷ ts) a (λ i j p l. sorted_far is_be
 -- ---- lists that rise and have the same elements
 
 -- what is there is above what all are above
-above_at : (s : String Global × ℕ) (ts : Texts) (u : LentText) (k : ℕ) → k < length ts → get_or ts k u ≡ u → AllByRecursion (λ (t : LentText). text_cmp s t.0 ≡ Less) ts → text_cmp s u.0 ≡ Less
+above_at : (s : Bor (List ℕ) × ℕ) (ts : Texts) (u : LentText) (k : ℕ) → k < length ts → get_or ts k u ≡ u → AllByRecursion (λ (t : LentText). text_cmp s t.0 ≡ Less) ts → text_cmp s u.0 ≡ Less
 above_at s [] u k l e a = absurd (omega (arith, l))
 above_at s (t ∷ ts) u zero l e a = subst (λ (x : LentText). text_cmp s x.0 ≡ Less) e a.0
 above_at s (t ∷ ts) u (suc k) l e a = above_at s ts u k (omega (arith, l)) e a.1
 
-not_below_itself : (s : String Global × ℕ) → text_cmp s s ≢ Less
+not_below_itself : (s : Bor (List ℕ) × ℕ) → text_cmp s s ≢ Less
 not_below_itself s h = let e : Equal ≡ Less = sym (tied_itself texts_total s) ∙ h in cc
 
 same_head : (t u : LentText) (ts us : Texts) → AreInOrder (t ∷ ts) → AreInOrder (u ∷ us) → Contains (u ∷ us) t → Contains (t ∷ ts) u → t ≡ u
@@ -164,19 +164,19 @@ abbrev put_in : Texts → Texts → Texts
 put_in ts [] = ts
 put_in ts (u ∷ us) = put_in (insert_entry text_cmp ts u.0 u.1) us
 
-module _ (t : String Global) (n : ℕ) (v : Bor Key × Hint) where
+module _ (t : Bor (List ℕ)) (n : ℕ) (v : Bor Key × Hint) where
   below_all : (u : LentText) (ts : Texts) → text_cmp (t, n) u.0 ≡ Less → AllByRecursion (λ (w : LentText). text_cmp u.0 w.0 ≡ Less) ts → AllByRecursion (λ (w : LentText). text_cmp (t, n) w.0 ≡ Less) ts
   below_all u [] e a = tt
   below_all u (w ∷ ts) e a = (texts_total.trans (t, n) u.0 w.0 e a.0, below_all u ts e a.1)
 
   inserted_in_order : (ts : Texts) → AllByRecursion (λ (u : LentText). u.0.1 < n) ts → AreInOrder ts → AreInOrder (insert_entry text_cmp ts (t, n) v)
   inserted_in_order [] l s = (tt, tt)
-  inserted_in_order (u ∷ ts) l s = go (string_cmp t u.0.0) refl (inserted_in_order ts l.1 s.1)
+  inserted_in_order (u ∷ ts) l s = go (name_cmp t.now u.0.0.now) refl (inserted_in_order ts l.1 s.1)
     where
       after : text_cmp (t, n) u.0 ≡ Greater → AreInOrder (insert_entry text_cmp ts (t, n) v) → AreInOrder (insert_entry text_cmp (u ∷ ts) (t, n) v)
       after e ih = subst AreInOrder (sym (goes_on t n v u ts e)) (all_inserted (λ (w : LentText). text_cmp u.0 w.0 ≡ Less) ts t n v l.1 (greater_less texts_total (t, n) u.0 e) s.0, ih)
 
-      go : (o : Ordering) → string_cmp t u.0.0 ≡ o → AreInOrder (insert_entry text_cmp ts (t, n) v) → AreInOrder (insert_entry text_cmp (u ∷ ts) (t, n) v)
+      go : (o : Ordering) → name_cmp t.now u.0.0.now ≡ o → AreInOrder (insert_entry text_cmp ts (t, n) v) → AreInOrder (insert_entry text_cmp (u ∷ ts) (t, n) v)
       go Less f ih =
           let e : text_cmp (t, n) u.0 ≡ Less = ap (λ o. ordering_then o (nat_cmp n u.0.1)) f in
           subst AreInOrder (sym (goes_first t n v u ts e)) ((e, below_all u ts e s.0), s)
@@ -185,12 +185,12 @@ module _ (t : String Global) (n : ℕ) (v : Bor Key × Hint) where
 
   inserted_moves : (ts : Texts) → AllByRecursion (λ (u : LentText). u.0.1 < n) ts → IsPermutation (((t, n), v) ∷ ts) (insert_entry text_cmp ts (t, n) v)
   inserted_moves [] l = IsPermutation-refl _
-  inserted_moves (u ∷ ts) l = go (string_cmp t u.0.0) refl (inserted_moves ts l.1)
+  inserted_moves (u ∷ ts) l = go (name_cmp t.now u.0.0.now) refl (inserted_moves ts l.1)
     where
       after : text_cmp (t, n) u.0 ≡ Greater → IsPermutation (((t, n), v) ∷ ts) (insert_entry text_cmp ts (t, n) v) → IsPermutation (((t, n), v) ∷ u ∷ ts) (insert_entry text_cmp (u ∷ ts) (t, n) v)
       after e ih = subst (IsPermutation (((t, n), v) ∷ u ∷ ts)) (sym (goes_on t n v u ts e)) (IsPermutation-trans _ _ _ (IsPermutation-middle (((t, n), v) ∷ []) u ts) (IsPermutation-cons u _ _ ih))
 
-      go : (o : Ordering) → string_cmp t u.0.0 ≡ o → IsPermutation (((t, n), v) ∷ ts) (insert_entry text_cmp ts (t, n) v) → IsPermutation (((t, n), v) ∷ u ∷ ts) (insert_entry text_cmp (u ∷ ts) (t, n) v)
+      go : (o : Ordering) → name_cmp t.now u.0.0.now ≡ o → IsPermutation (((t, n), v) ∷ ts) (insert_entry text_cmp ts (t, n) v) → IsPermutation (((t, n), v) ∷ u ∷ ts) (insert_entry text_cmp (u ∷ ts) (t, n) v)
       go Less f ih = subst (IsPermutation (((t, n), v) ∷ u ∷ ts)) (sym (goes_first t n v u ts (ap (λ o. ordering_then o (nat_cmp n u.0.1)) f))) (IsPermutation-refl _)
       go Equal f ih = after (ap (λ o. ordering_then o (nat_cmp n u.0.1)) f ∙ over u.0.1 n l.0) ih
       go Greater f ih = after (ap (λ o. ordering_then o (nat_cmp n u.0.1)) f) ih
@@ -218,7 +218,7 @@ module _ (names : List (List ℕ)) where
       (subst (λ s. IsPermutation ((s, u.1) ∷ ts) new) at (inserted_moves u.0.0 n u.1 ts f.numbers)))) in
       let rest : ArePutIn names ((ks ++ u.1.0.now ∷ []) ++ keys_in us) all (put_in new us) =
       put_in_all (ks ++ u.1.0.now ∷ []) (n + 1) all new us (texts_go_on names ks n ts new u.0.0 u.1 o h.0 refl f) (inserted_in_order u.0.0 n u.1 ts f.numbers o) moved a.1 h.1 in
-      subst (λ (s : String Global × ℕ). ArePutIn names (ks ++ u.1.0.now ∷ keys_in us) all (put_in (insert_entry text_cmp ts s u.1) us)) at
+      subst (λ (s : Bor (List ℕ) × ℕ). ArePutIn names (ks ++ u.1.0.now ∷ keys_in us) all (put_in (insert_entry text_cmp ts s u.1) us)) at
       (subst (λ js. ArePutIn names js all (put_in new us)) (append_assoc ks (u.1.0.now ∷ []) (keys_in us)) rest)
 
   -- so sorting them gives what putting them in their places gives

@@ -1,5 +1,5 @@
 -- About Parts: the keys by their texts make the same members as the keys in their own order.
-use Rattle.std.proofs.Common.{◌≡◌, ℕ, ◌+◌, ◌<◌, List, [], ◌∷◌, ◌++◌, map, Option, Some, None, Contains, String, Global, Bor, nat_cmp, string_cmp, string_bytes, refl, sym, ap, ◌∙◌, subst, arith}
+use Rattle.std.proofs.Common.{◌≡◌, ℕ, ◌+◌, ◌<◌, List, [], ◌∷◌, ◌++◌, map, Option, Some, None, Contains, Bor, nat_cmp, refl, sym, ap, ◌∙◌, subst, arith}
 use Rattle.std.specs.List.{AllByRecursion}
 use Rattle.std.specs.Ordering.{ordering_then, MatchOrdering}
 use Rattle.std.specs.declared.cmp.Ordering.{Ordering}
@@ -49,7 +49,7 @@ less_then r s t o h e = go (name_cmp s t) refl
 
 -- ---- one more key among the texts
 
-module _ (t : String Global) (n : ℕ) (v : Bor Key × Hint) (u : LentText) (ts : Texts) where
+module _ (t : Bor (List ℕ)) (n : ℕ) (v : Bor Key × Hint) (u : LentText) (ts : Texts) where
   pub goes_first : text_cmp (t, n) u.0 ≡ Less → insert_entry text_cmp (u ∷ ts) (t, n) v ≡ ((t, n), v) ∷ u ∷ ts
   goes_first h = rw h refl
 
@@ -57,15 +57,15 @@ module _ (t : String Global) (n : ℕ) (v : Bor Key × Hint) (u : LentText) (ts 
   goes_on h = rw h refl
 
 -- what is true of all is true with one more, of the greatest number
-pub all_inserted : (P : LentText → Type 0) (ts : Texts) (t : String Global) (n : ℕ) (v : Bor Key × Hint) → AllByRecursion (λ (u : LentText). u.0.1 < n) ts → P ((t, n), v) → AllByRecursion P ts
+pub all_inserted : (P : LentText → Type 0) (ts : Texts) (t : Bor (List ℕ)) (n : ℕ) (v : Bor Key × Hint) → AllByRecursion (λ (u : LentText). u.0.1 < n) ts → P ((t, n), v) → AllByRecursion P ts
     → AllByRecursion P (insert_entry text_cmp ts (t, n) v)
 all_inserted P [] t n v l p a = (p, tt)
-all_inserted P (u ∷ ts) t n v l p a = go (string_cmp t u.0.0) refl (all_inserted P ts t n v l.1 p a.1)
+all_inserted P (u ∷ ts) t n v l p a = go (name_cmp t.now u.0.0.now) refl (all_inserted P ts t n v l.1 p a.1)
   where
     further : text_cmp (t, n) u.0 ≡ Greater → AllByRecursion P (insert_entry text_cmp ts (t, n) v) → AllByRecursion P (insert_entry text_cmp (u ∷ ts) (t, n) v)
     further h ih = subst (AllByRecursion P) (sym (goes_on t n v u ts h)) (a.0, ih)
 
-    go : (o : Ordering) → string_cmp t u.0.0 ≡ o → AllByRecursion P (insert_entry text_cmp ts (t, n) v) → AllByRecursion P (insert_entry text_cmp (u ∷ ts) (t, n) v)
+    go : (o : Ordering) → name_cmp t.now u.0.0.now ≡ o → AllByRecursion P (insert_entry text_cmp ts (t, n) v) → AllByRecursion P (insert_entry text_cmp (u ∷ ts) (t, n) v)
     go Less f ih = subst (AllByRecursion P) (sym (goes_first t n v u ts (ap (λ o. ordering_then o (nat_cmp n u.0.1)) f))) (p, a)
     go Equal f ih = further (ap (λ o. ordering_then o (nat_cmp n u.0.1)) f ∙ over u.0.1 n l.0) ih
     go Greater f ih = further (ap (λ o. ordering_then o (nat_cmp n u.0.1)) f) ih
@@ -107,19 +107,19 @@ module _ (names : List (List ℕ)) (w : List ℕ) (es : List (Key × Data)) wher
       ∙ ap (put_all (of_key k)) (sym (of_keys-cons j ks ms))
 
   -- what comes after a greater text is greater
-  all_over : (k : Key) (u : String Global × ℕ) (ts : Texts) → name_cmp (closed_text names k) (string_bytes u.0) ≡ Less → AllByRecursion (λ (t : LentText). text_cmp u t.0 ≡ Less) ts → HasTexts names ts
+  all_over : (k : Key) (u : Bor (List ℕ) × ℕ) (ts : Texts) → name_cmp (closed_text names k) u.0.now ≡ Less → AllByRecursion (λ (t : LentText). text_cmp u t.0 ≡ Less) ts → HasTexts names ts
       → AllByRecursion (λ j. name_cmp (closed_text names k) (closed_text names j) ≡ Less) (keys_in ts)
   all_over k u [] h a s = tt
   all_over k u (t ∷ ts) h a s = (
-    subst (λ (x : List ℕ). name_cmp (closed_text names k) x ≡ Less) s.0 (less_then (closed_text names k) (string_bytes u.0) (string_bytes t.0.0) (nat_cmp u.1 t.0.1) h a.0),
+    subst (λ (x : List ℕ). name_cmp (closed_text names k) x ≡ Less) s.0 (less_then (closed_text names k) u.0.now t.0.0.now (nat_cmp u.1 t.0.1) h a.0),
     all_over k u ts h a.1 s.1,
   )
 
   -- a key that is put among the texts is put last, as far as the members show
-  inserted : (ts : Texts) (t : String Global) (n : ℕ) (v : Bor Key × Hint) (ms : Members) → AreInOrder ts → AllByRecursion (λ (u : LentText). u.0.1 < n) ts → HasTexts names ts → string_bytes t ≡ closed_text names v.0.now
+  inserted : (ts : Texts) (t : Bor (List ℕ)) (n : ℕ) (v : Bor Key × Hint) (ms : Members) → AreInOrder ts → AllByRecursion (λ (u : LentText). u.0.1 < n) ts → HasTexts names ts → t.now ≡ closed_text names v.0.now
       → put_all (of_keys (keys_in (insert_entry text_cmp ts (t, n) v))) ms ≡ put_all (of_key v.0.now) (put_all (of_keys (keys_in ts)) ms)
   inserted [] t n v ms s l h e = of_keys-cons v.0.now [] ms
-  inserted (u ∷ ts) t n v ms s l h e = go (string_cmp t u.0.0) refl (inserted ts t n v (put_all (of_key u.1.0.now) ms) s.1 l.1 h.1 e)
+  inserted (u ∷ ts) t n v ms s l h e = go (name_cmp t.now u.0.0.now) refl (inserted ts t n v (put_all (of_key u.1.0.now) ms) s.1 l.1 h.1 e)
     where
       further : text_cmp (t, n) u.0 ≡ Greater → put_all (of_keys (keys_in (insert_entry text_cmp ts (t, n) v))) (put_all (of_key u.1.0.now) ms) ≡ put_all (of_key v.0.now) (put_all (of_keys (keys_in ts)) (put_all (of_key u.1.0.now) ms)) → put_all (of_keys (keys_in (insert_entry text_cmp (u ∷ ts) (t, n) v))) ms ≡ put_all (of_key v.0.now) (put_all (of_keys (keys_in (u ∷ ts))) ms)
       further g ih =
@@ -128,9 +128,9 @@ module _ (names : List (List ℕ)) (w : List ℕ) (es : List (Key × Data)) wher
           ∙ ih
           ∙ ap (put_all (of_key v.0.now)) (sym (of_keys-cons u.1.0.now (keys_in ts) ms))
 
-      go : (o : Ordering) → string_cmp t u.0.0 ≡ o → put_all (of_keys (keys_in (insert_entry text_cmp ts (t, n) v))) (put_all (of_key u.1.0.now) ms) ≡ put_all (of_key v.0.now) (put_all (of_keys (keys_in ts)) (put_all (of_key u.1.0.now) ms)) → put_all (of_keys (keys_in (insert_entry text_cmp (u ∷ ts) (t, n) v))) ms ≡ put_all (of_key v.0.now) (put_all (of_keys (keys_in (u ∷ ts))) ms)
+      go : (o : Ordering) → name_cmp t.now u.0.0.now ≡ o → put_all (of_keys (keys_in (insert_entry text_cmp ts (t, n) v))) (put_all (of_key u.1.0.now) ms) ≡ put_all (of_key v.0.now) (put_all (of_keys (keys_in ts)) (put_all (of_key u.1.0.now) ms)) → put_all (of_keys (keys_in (insert_entry text_cmp (u ∷ ts) (t, n) v))) ms ≡ put_all (of_key v.0.now) (put_all (of_keys (keys_in (u ∷ ts))) ms)
       go Less f ih =
-          let low : name_cmp (closed_text names v.0.now) (string_bytes u.0.0) ≡ Less = subst (λ (x : List ℕ). name_cmp x (string_bytes u.0.0) ≡ Less) e f in
+          let low : name_cmp (closed_text names v.0.now) u.0.0.now ≡ Less = subst (λ (x : List ℕ). name_cmp x u.0.0.now ≡ Less) e f in
           let first : name_cmp (closed_text names v.0.now) (closed_text names u.1.0.now) ≡ Less = subst (λ (x : List ℕ). name_cmp (closed_text names v.0.now) x ≡ Less) h.0 low in
           ap (λ us. put_all (of_keys (keys_in us)) ms) (goes_first t n v u ts (ap (λ o. ordering_then o (nat_cmp n u.0.1)) f))
           ∙ of_keys-cons v.0.now (keys_in (u ∷ ts)) ms
@@ -154,10 +154,10 @@ module _ (names : List (List ℕ)) where
   pub texts_begin : AreTextsSoFar names [] 0 []
   texts_begin = record { texts = tt; numbers = tt; members = λ w es ms. refl }
 
-  pub texts_go_on : (ks : List Key) (n : ℕ) (ts new : Texts) (t : String Global) (v : Bor Key × Hint) → AreInOrder ts → string_bytes t ≡ closed_text names v.0.now → new ≡ insert_entry text_cmp ts (t, n) v
+  pub texts_go_on : (ks : List Key) (n : ℕ) (ts new : Texts) (t : Bor (List ℕ)) (v : Bor Key × Hint) → AreInOrder ts → t.now ≡ closed_text names v.0.now → new ≡ insert_entry text_cmp ts (t, n) v
       → AreTextsSoFar names ks n ts → AreTextsSoFar names (ks ++ v.0.now ∷ []) (n + 1) new
   texts_go_on ks n ts new t v s e is f = subst (AreTextsSoFar names (ks ++ v.0.now ∷ []) (n + 1)) (sym is) (record {
-    texts = all_inserted (λ (u : LentText). string_bytes u.0.0 ≡ closed_text names u.1.0.now) ts t n v f.numbers e f.texts;
+    texts = all_inserted (λ (u : LentText). u.0.0.now ≡ closed_text names u.1.0.now) ts t n v f.numbers e f.texts;
     numbers = all_inserted (λ (u : LentText). u.0.1 < n + 1) ts t n v f.numbers (omega arith) (all_weaker ts n f.numbers);
     members = λ w es ms.
         inserted names w es ts t n v ms s f.numbers f.texts e

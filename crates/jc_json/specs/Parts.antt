@@ -1,7 +1,7 @@
 -- The members of a context, kind by kind and by the texts of their keys, by which the code sends it; jc_dump cites
 -- `shown_as`.
-use Rattle.std.specs.Prelude.{◌≡◌, ⊤, ℕ, ◌+◌, List, [], ◌∷◌, ◌++◌, map, codes, nat_eq, true, cond, is_some, String, string_bytes, string_cmp}
-use Rattle.std.specs.List.{AllByRecursion}
+use Rattle.std.specs.Prelude.{◌≡◌, ⊤, ℕ, ◌+◌, List, [], ◌∷◌, ◌++◌, map, codes, nat_eq, true, cond, is_some, String, length}
+use Rattle.std.specs.List.{AllByRecursion, flat_map}
 use Rattle.std.specs.Ordering.{nat_cmp, ordering_then}
 use Rattle.std.specs.declared.cmp.Ordering.{Ordering}
 use Rattle.std.specs.declared.cmp.Ordering.TheVariants.{Less}
@@ -14,7 +14,7 @@ use Rattle.jc_rules.specs.declared.key.Key.{Key}
 use Rattle.jc_rules.specs.declared.key.Tagged.{Tagged}
 use Rattle.jc_rules.specs.declared.key.Tagged.TheVariants.{MapT, ListT}
 use Rattle.jc_rules.specs.Context.{Context, maps, lists, registers, presences, links, content}
-use Rattle.jc_rules.specs.Order.{key_cmp}
+use Rattle.jc_rules.specs.Order.{key_cmp, name_cmp}
 use Rattle.jc_rules.specs.Entries.{find}
 use Rattle.jc_rules.specs.ContextsAt.{or_empty}
 use Rattle.jc_tree.specs.declared.store.Hint.{Hint}
@@ -63,9 +63,14 @@ member_of names word e = (word ++ closed_text names e.0, e.1)
 
 -- ---- the keys by their texts
 
+-- The texts of these keys stand one behind the other, and these are their lengths.
+pub record AreJoined (names : List (List ℕ)) (ks : List Key) (all : List ℕ) (lens : List ℕ) : Type 0 where
+  pub texts : all ≡ flat_map (closed_text names) ks
+  pub each : lens ≡ map (λ k. length (closed_text names k)) ks
+
 -- a key that is lent, by its text and its number
 abbrev pub LentText : Type 0
-LentText = (String Global × ℕ) × (Bor Key × Hint)
+LentText = (Bor (List ℕ) × ℕ) × (Bor Key × Hint)
 
 abbrev pub Texts : Type 0
 Texts = List LentText
@@ -75,7 +80,7 @@ keys_in ts = map (λ (t : LentText). t.1.0.now) ts
 
 -- each text is that of its key
 abbrev pub HasTexts : List (List ℕ) → Texts → Type 0
-HasTexts names ts = AllByRecursion (λ (t : LentText). string_bytes t.0.0 ≡ closed_text names t.1.0.now) ts
+HasTexts names ts = AllByRecursion (λ (t : LentText). t.0.0.now ≡ closed_text names t.1.0.now) ts
 
 -- the numbers rise by one, from n on
 abbrev pub AreNumbered : ℕ → Texts → Type 0
@@ -89,8 +94,8 @@ pub record AreTextsFrom (names : List (List ℕ)) (ks : List Key) (ts : Texts) :
   pub keys : keys_in ts ≡ ks
 
 -- texts by their bytes, those of one text by their numbers
-abbrev pub text_cmp : String Global × ℕ → String Global × ℕ → Ordering
-text_cmp s t = ordering_then (string_cmp s.0 t.0) (nat_cmp s.1 t.1)
+abbrev pub text_cmp : Bor (List ℕ) × ℕ → Bor (List ℕ) × ℕ → Ordering
+text_cmp s t = ordering_then (name_cmp s.0.now t.0.now) (nat_cmp s.1 t.1)
 
 -- each is below those after it
 abbrev pub AreInOrder : Texts → Type 0

@@ -1,6 +1,8 @@
 //! The texts of identifiers and keys, for JSON, dumps and views.
 
 ghost use Rattle.std.specs.Prelude.{◌≡◌, ◌++◌, IfOk, OnOk, string_bytes};
+ghost use Rattle.serde_json.specs.Data.{string};
+ghost use Rattle.serde_json.specs.Written.{compact_text};
 ghost use Rattle.jc_json.specs.Json.{id_text, key_text, closed_text, entry_text, tagged_text, next_text};
 
 use itoa::Buffer;
@@ -27,25 +29,48 @@ pub(crate) fn push_id(text: &mut String, names: &[Text], id: Id) -> Result<(), A
     text.push_str(name_at(names, id.replica))
 }
 
+/// Appends a text as a JSON string. After a refusal a part of it may be there.
+fn push_quoted(text: &mut String, alloc: Global, name: &str) -> Result<(), AllocError>
+    ensures { OnOk result (string_bytes text.new ≡ string_bytes text.old ++ compact_text (string name.now)) }
+{
+    let quoted = Json::try_from_str(alloc, name)?.to_string(alloc)?;
+    text.push_str(quoted.as_str())
+}
+
+/// Appends the text of a key: `doc`, `head`, a name as a JSON string, or an identifier's text. After a refusal a part of
+/// it may be there.
+fn push_key(text: &mut String, alloc: Global, names: &[Text], key: &Key) -> Result<(), AllocError>
+    ensures { OnOk result (string_bytes text.new ≡ string_bytes text.old ++ key_text names.now key.now) }
+{
+    match key {
+        Key::Doc => text.push_str("doc"),
+        Key::Head => text.push_str("head"),
+        Key::Name(name) => push_quoted(text, alloc, name.as_str()),
+        Key::Elem(id) => push_id(text, names, *id),
+    }
+}
+
 /// The text of a key: `doc`, `head`, a name as a JSON string, or an identifier's text.
 pub fn key_text(alloc: Global, names: &[Text], key: &Key) -> Result<String, AllocError>
     ensures { IfOk result (λ s. string_bytes s ≡ key_text names.now key.now) }
 {
-    match key {
-        Key::Doc => String::from_str(alloc, "doc"),
-        Key::Head => String::from_str(alloc, "head"),
-        Key::Name(name) => Json::try_from_str(alloc, name.as_str())?.to_string(alloc),
-        Key::Elem(id) => id_text(alloc, names, *id),
-    }
+    let mut text = String::new(alloc);
+    push_key(&mut text, alloc, names, key)?;
+    Ok(text)
 }
 
-/// A key's text with the bracket that ends the name of a context's member.
-pub(crate) fn closed_text(alloc: Global, names: &[Text], key: &Key) -> Result<String, AllocError>
-    ensures { IfOk result (λ s. string_bytes s ≡ closed_text names.now key.now) }
+/// Appends a key's text with the bracket that ends the name of a context's member. After a refusal a part of it may be
+/// there.
+pub(crate) fn push_closed(
+    text: &mut String,
+    alloc: Global,
+    names: &[Text],
+    key: &Key,
+) -> Result<(), AllocError>
+    ensures { OnOk result (string_bytes text.new ≡ string_bytes text.old ++ closed_text names.now key.now) }
 {
-    let mut text = key_text(alloc, names, key)?;
-    text.push_str(")")?;
-    Ok(text)
+    push_key(text, alloc, names, key)?;
+    text.push_str(")")
 }
 
 /// The name of a context's member: a kind of entry, and a key in brackets.

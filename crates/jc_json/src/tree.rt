@@ -6,10 +6,10 @@ ghost use Rattle.jc_rules.specs.Order.{key_cmp};
 ghost use Rattle.jc_rules.specs.Entries.{find};
 ghost use Rattle.jc_tree.specs.Tree.{HasPlace, here, keys_lent};
 ghost use Rattle.jc_json.specs.Json.{context_data};
-ghost use Rattle.jc_json.specs.Parts.{tag_of, word_of, shown_in, part_data, IsPartAt, name_of, with_last, AreTextsFrom, AreInOrder, AreTextsOf, AreMembersOfKind, AreMembersOf};
+ghost use Rattle.jc_json.specs.Parts.{tag_of, word_of, shown_in, part_data, IsPartAt, name_of, with_last, AreJoined, AreTextsFrom, AreInOrder, AreTextsOf, AreMembersOfKind, AreMembersOf};
 
 use crate::send::{granted, send_ids, send_register};
-use crate::texts::{closed_text, next_text};
+use crate::texts::{next_text, push_closed};
 use jc_rules::{Id, Key, Next, Tagged, Text, Value};
 use jc_tree::{Hint, Place, TreeStore};
 use serde::{Described, Serialize, Serializer};
@@ -87,31 +87,57 @@ impl Member<'_> {
 }
 
 /// The keys of a context, each with its text and its number in the order of the keys.
-type Texts<'a> = Vec<((String, usize), (&'a Key, Hint))>;
+type Texts<'a> = Vec<((&'a str, usize), (&'a Key, Hint))>;
 
-/// The keys with their texts, in the order in which they are given.
-fn texts_of<'a>(
+/// Writes the texts of keys over what is there, one behind the other, and returns how long each is.
+fn write_texts(
+    all: &mut String,
     alloc: Global,
     names: &[Text],
+    keys: &[(&Key, Hint)],
+) -> Result<Vec<usize>, AllocError>
+    ensures { IfOk result (λ lens. AreJoined names.now (keys_lent keys.now) (string_bytes all.new) lens.items) }
+{
+    all.clear();
+    let mut lens = Vec::with_capacity(alloc, keys.len())?;
+    for lent in keys {
+        let before = all.len();
+        push_closed(all, alloc, names, lent.0)?;
+        lens.push(all.len() - before)?;
+    }
+    Ok(lens)
+}
+
+/// The keys with their texts, which stand one behind the other, in the order in which they are given.
+fn texts_of<'a>(
+    alloc: Global,
+    all: &'a str,
+    lens: &[usize],
     keys: &[(&'a Key, Hint)],
 ) -> Result<Texts<'a>, AllocError>
-    ensures { IfOk result (λ texts. AreTextsFrom names.now (keys_lent keys.now) texts.items) }
+    requires { (names : List (List ℕ)) × AreJoined names (keys_lent keys.now) all.now lens.now }
+    ensures { IfOk result (λ texts. (names : List (List ℕ)) → AreJoined names (keys_lent keys.now) all.now lens.now
+        → AreTextsFrom names (keys_lent keys.now) texts.items) }
 {
     let mut texts = Vec::with_capacity(alloc, keys.len())?;
+    let mut rest = all;
     for (number, lent) in keys.iter().enumerate() {
-        let text = closed_text(alloc, names, lent.0)?;
+        let (text, after) = rest.split_at(lens[number]);
         texts.push(((text, number), *lent))?;
+        rest = after;
     }
     Ok(texts)
 }
 
-/// The keys of the context at a place in the order of their texts. Those with one text are in the order of the keys.
+/// The keys of the context at a place in the order of their texts, which are written over what is there. Those with one
+/// text are in the order of the keys.
 fn texts_at<'a, S: TreeStore>(
     alloc: Global,
     names: &[Text],
     store: &'a S,
     place: Place,
     at: &[Tagged],
+    all: &'a mut String,
 ) -> Result<Texts<'a>, AllocError>
     requires there { HasPlace at.now (S.tree store.now) }
     requires named { S.names store.now place at.now }
@@ -119,7 +145,8 @@ fn texts_at<'a, S: TreeStore>(
     ensures texts { IfOk result (λ texts. AreTextsOf names.now (here at.now (S.tree store.now)) texts.items) }
 {
     let keys = store.keys_at(alloc, place, at)?;
-    let mut texts = texts_of(alloc, names, keys.as_slice())?;
+    let lens = write_texts(all, alloc, names, keys.as_slice())?;
+    let mut texts = texts_of(alloc, all.as_str(), lens.as_slice(), keys.as_slice())?;
     texts.sort_by(|one, other| one.0.cmp(&other.0))?;
     Ok(texts)
 }
@@ -185,7 +212,7 @@ fn members_of<'a, S: TreeStore>(
     let mut members = Vec::new(alloc);
     for (text, lent) in texts.as_slice() {
         if let Some(part) = part_at(store, place, at, kind, lent.0, lent.1) {
-            let text = text.0.as_str();
+            let text = text.0;
             put_last(&mut members, Member { kind, text, part })?;
         }
     }
@@ -239,7 +266,11 @@ fn send_tree<S: TreeStore, W: Serializer>(
         (W.written out.old) (W.written out.new)) }
     ensures path { OnOk result (at.new.items ≡ at.old.items) }
 {
-    let texts = granted(texts_at(alloc, names, store, place, at.as_slice()), out)?;
+    let mut all = String::new(alloc);
+    let texts = granted(
+        texts_at(alloc, names, store, place, at.as_slice(), &mut all),
+        out,
+    )?;
     let members = granted(members_at(alloc, store, place, at.as_slice(), &texts), out)?;
     let mut name = String::new(alloc);
     out.begin_map(Some(members.len()))?;

@@ -1,7 +1,7 @@
 //! Limits the memory of a test: blocks to which nothing is written take the whole address space of its process, but for
 //! as many bytes as a call may get. The tests of the other files use it.
 //!
-//! A test makes each call with ample memory first, so that the stack grows as far as the call needs; later it can't.
+//! The stack grows before: where all else of the address space is taken, it can't.
 
 use std::alloc::{AllocError, Global};
 use std::process::Abort;
@@ -18,7 +18,7 @@ const PIECE: usize = 1 << 22;
 /// 448 in all; between two of them there is room here for the longest list and the spare block.
 const PIECES: usize = 128;
 
-/// The number of pieces beside threads. This is less than a heap of a thread's own, and than the holes for threads,
+/// The number of pieces beside threads. This is less than a heap of a thread's own, and than the gaps for threads,
 /// which would be cut out of it else.
 const PIECES_BESIDE_THREADS: usize = 11;
 
@@ -33,6 +33,10 @@ pub const UNIT: usize = 16;
 
 /// Above this size the C library keeps no list of freed blocks for each size.
 const LISTED: usize = 1_032;
+
+/// The number of calls inside one another by which the stack grows, each by some words. Together they are about a MiB,
+/// where a process begins with 132 KiB, as much as all tests but one need.
+const DEEP: usize = 1 << 15;
 
 /// The next size that is tried. Of small sizes each is tried, since freed blocks of one size serve no other.
 fn smaller(size: usize) -> usize {
@@ -64,6 +68,17 @@ fn take(alloc: Global, largest: usize, many: usize) -> Result<Vec<Vec<u8>>, Allo
     Ok(blocks)
 }
 
+/// Calls itself so many times, with a block alive in each call, so that the stack grows. A call that is refused memory
+/// may need more of it than one with ample memory. Returns how many bytes the blocks had room for.
+fn grow_stack(alloc: Global, calls: usize) -> Result<usize, AllocError> {
+    if calls == 0 {
+        return Ok(0);
+    }
+    let held = block(alloc, UNIT)?;
+    let below = grow_stack(alloc, calls - 1)?;
+    Ok(below.saturating_add(held.capacity()))
+}
+
 fn room(alloc: Global, pieces: usize) -> Result<Vec<Vec<u8>>, AllocError> {
     let mut room = Vec::with_capacity(alloc, pieces)?;
     for _ in 0..pieces {
@@ -73,6 +88,7 @@ fn room(alloc: Global, pieces: usize) -> Result<Vec<Vec<u8>>, AllocError> {
 }
 
 fn all_but_room(alloc: Global, pieces: usize) -> Result<Vec<Vec<u8>>, AllocError> {
+    grow_stack(alloc, DEEP)?;
     // After a large block was freed, the C library cuts blocks up to its size out of one heap.
     drop(block(alloc, 4 * PIECE)?);
     let room = room(alloc, pieces)?;

@@ -1,8 +1,8 @@
 //! Tests of runs by threads: with too little memory there is no report, or one in which an end says so.
 //!
 //! Each thread would get a heap of its own from the C library. So the memory is filled before the first thread is made,
-//! but for a hole in which stacks fit and no such heap does. Stacks are kept for the next threads; after the first run
-//! what threads take comes page by page out of a second hole, and what the thread takes that started them out of the
+//! but for a gap in which stacks fit and no such heap does. Stacks are kept for the next threads; after the first run
+//! what threads take comes page by page out of a second gap, and what the thread takes that started them out of the
 //! room. Where the C library does otherwise, fewer requests are refused, and the same must hold after each.
 
 ghost use Rattle.std.specs.Prelude.{None, true};
@@ -27,9 +27,9 @@ use std::sync::atomic::{AtomicBool, Ordering};
 use std::test::Fail;
 use std::thread::Threads;
 
-/// The C library frees blocks of these sizes to the system at once, and makes no heap in so small a hole. The first one
-/// for which there is room is taken, since a stack may stand in a hole that was given back.
-const HOLES: [usize; 3] = [48 << 20, 40 << 20, 32 << 20];
+/// The C library frees blocks of these sizes to the system at once, and makes no heap in so small a gap. The first one
+/// for which there is room is taken, since a stack may stand in a gap that was given back.
+const GAPS: [usize; 3] = [48 << 20, 40 << 20, 32 << 20];
 
 const PAGE: usize = 4_096;
 
@@ -198,22 +198,22 @@ fn command<R: Threads + Wait + Sync + AllocGlobal>(rt: &R, words: &[String]) -> 
     }
 }
 
-/// A hole, or an empty block where there is no room for one.
-fn hole(alloc: Global) -> Vec<u8> {
-    for size in HOLES {
-        if let Ok(hole) = block(alloc, size) {
-            return hole;
+/// A gap, or an empty block where there is no room for one.
+fn gap(alloc: Global) -> Vec<u8> {
+    for size in GAPS {
+        if let Ok(gap) = block(alloc, size) {
+            return gap;
         }
     }
     Vec::new(alloc)
 }
 
-/// Takes all memory, but for this number of bytes of the room and of pages of the hole.
+/// Takes all memory, but for this number of bytes of the room and of pages of the gap.
 fn leave_both(rt: &impl Abort, alloc: Global, bytes: usize, pages: usize) -> Vec<Vec<u8>> {
-    let hole = hole(alloc);
-    let size = hole.capacity();
+    let gap = gap(alloc);
+    let size = gap.capacity();
     let mut blocks = leave(rt, alloc, bytes);
-    drop(hole);
+    drop(gap);
     let rest = block(alloc, size.saturating_sub(pages.saturating_mul(PAGE)));
     if let Ok(rest) = rest {
         blocks.push(rest).ok().expect(rt, "room for a block");
@@ -264,7 +264,7 @@ fn runs_are_refused(rt: HostRuntime) -> Result<(), Fail> {
     let (a, b) = (AtomicBool::new(false), AtomicBool::new(false));
     let scenario = scene(&rt, alloc, DELETION);
     let gates = meetings(alloc, &a, &b)?;
-    let (stacks, apart, pages) = (hole(alloc), hole(alloc), hole(alloc));
+    let (stacks, apart, pages) = (gap(alloc), gap(alloc), gap(alloc));
     let blocks = fill_beside_threads(&rt, alloc);
     drop(stacks);
     holds(&rt, run(&rt, alloc, scenario, gates) == Outcome::Done);
@@ -324,7 +324,7 @@ fn the_command_is_refused(rt: HostRuntime) -> Result<(), Fail> {
         command(&rt, &texts(alloc, &["check", "-"])?) == Outcome::Wrong,
     );
     let words = texts(alloc, &["threads", "-"])?;
-    let (stacks, apart, pages) = (hole(alloc), hole(alloc), hole(alloc));
+    let (stacks, apart, pages) = (gap(alloc), gap(alloc), gap(alloc));
     let blocks = fill_beside_threads(&rt, alloc);
     drop(stacks);
     holds(&rt, command(&rt, &words) == Outcome::Done);

@@ -2,7 +2,7 @@
 use Rattle.std.proofs.Common.{◌≡◌, ℕ, inl, inr, List, [], Bool, true, false, if◌then◌else◌, Option, Some, None, Ok, Err, refl, sym, subst}
 use Rattle.std.proofs.lemmas.Option.{same_Some}
 use Rattle.jc_cli.specs.declared.order.Task.{Task}
-use Rattle.jc_cli.specs.declared.order.Task.TheVariants.{Show, Debug, Threads, Weave}
+use Rattle.jc_cli.specs.declared.order.Task.TheVariants.{Show, Debug, Serve, Threads, Weave}
 use Rattle.jc_cli.specs.declared.order.View.{View}
 use Rattle.jc_cli.specs.declared.order.View.TheVariants.{Check, Print, Run, Document, Journal}
 use Rattle.jc_scenario.specs.WellFormed.{Scenario, IsScenario}
@@ -28,6 +28,7 @@ use Rattle.jc_program.proofs.ThreadRunsLemmas.{lacking}
 pub nothing_done : (task : Task) (told lines : Option (List ℕ)) (old new : Stream) → new ≡ old → IsStoppedCommand task Memory told lines lines old new
 nothing_done (Show view) told lines old new same = nothing_shown view told old new same
 nothing_done Debug told lines old new same = without_memory told lines lines old new refl same
+nothing_done Serve told lines old new same = inl (refl, same)
 nothing_done (Threads limit) told lines old new same = (refl, same)
 nothing_done (Weave seed limit) told lines old new same = lacking (IsBySeed seed limit) HaveNoThreads told old new same
 

@@ -11,7 +11,7 @@ use Rattle.jc_scenario.specs.Views.{scenario_view}
 use Rattle.jc_scenario.specs.declared.scenario.Scenario.{Scenario as ScenarioValue}
 use Rattle.jc_cli.specs.declared.order.View.{View}
 use Rattle.jc_cli.specs.declared.order.Task.{Task}
-use Rattle.jc_cli.specs.declared.order.Task.TheVariants.{Show, Debug, Threads, Weave}
+use Rattle.jc_cli.specs.declared.order.Task.TheVariants.{Show, Debug, Serve, Threads, Weave}
 use Rattle.jc_program.specs.declared.run.RunFault.{RunFault}
 use Rattle.jc_program.specs.declared.run.RunFault.TheVariants as R
 use Rattle.jc_program.specs.WorkFaults.{read_fault, run_fault}
@@ -19,7 +19,7 @@ use Rattle.jc_program.specs.Faults.{IsCause}
 use Rattle.jc_program.specs.ViewText.{ReadsAs, Shows, IsRefused}
 use Rattle.jc_program.specs.ViewOutput.{AreTold, IsUnfinishedOf, HasRun, IsStoppedView}
 use Rattle.jc_program.specs.Found.{found_view, IsFound}
-use Rattle.jc_program.specs.Commands.{IsAlone, IsDone, IsStoppedCommand}
+use Rattle.jc_program.specs.Commands.{IsAlone, ReadsTextAlone, IsDone, IsStoppedCommand}
 use Rattle.jc_program.specs.declared.recording.Recording.{Recording}
 use Rattle.jc_program.specs.ThreadRuns.{HasRecorded, IsStoppedRecording}
 use Rattle.jc_program.specs.WeaveRuns.{IsBySeed, HaveNoThreads}
@@ -50,7 +50,7 @@ pub read_cause : (why : ReadFault) (unread : Type 0) (a b out : ℕ) → (why �
 read_cause I.Failed unread a b out memory failed = (failed refl, refl)
 read_cause I.Memory unread a b out memory failed = (memory refl, refl)
 
-some_bytes : (told : Option (List ℕ)) → (bytes : List ℕ) × AreTold told bytes
+pub some_bytes : (told : Option (List ℕ)) → (bytes : List ℕ) × AreTold told bytes
 some_bytes None = ([], tt)
 some_bytes (Some bytes) = (bytes, refl)
 
@@ -64,9 +64,10 @@ view_unread : (view : View) (told : Option (List ℕ)) (old new : Stream) (why :
 view_unread view told old new I.Failed same = let b = some_bytes told in (b.0, b.1, same)
 view_unread view told old new I.Memory same = let b = some_bytes told in (b.0, b.1, ([], inl refl, wrote_none old new same))
 
-pub unread : (task : Task) (told lines left : Option (List ℕ)) (old new : Stream) (why : ReadFault) → IsAlone task → task ≢ Debug → new ≡ old → IsStoppedCommand task (read_fault why) told lines left old new
+pub unread : (task : Task) (told lines left : Option (List ℕ)) (old new : Stream) (why : ReadFault) → IsAlone task → ReadsTextAlone task → new ≡ old → IsStoppedCommand task (read_fault why) told lines left old new
 unread (Show view) told lines left old new why alone reads same = view_unread view told old new why same
-unread Debug told lines left old new why alone reads same = absurd (reads refl)
+unread Debug told lines left old new why alone reads same = absurd (reads.0 refl)
+unread Serve told lines left old new why alone reads same = absurd (reads.1 refl)
 unread (Threads limit) told lines left old new why alone reads same = absurd alone
 unread (Weave seed limit) told lines left old new why alone reads same = recording_unread (IsBySeed seed limit) HaveNoThreads told old new why same
 
@@ -86,9 +87,10 @@ module _ (told : Option (List ℕ)) (fault : ScenarioFault) (found : IsFound tol
     refusal_stopped HasThreads R.Memory memory write = (found.0, found.1, memory refl)
     refusal_stopped HasThreads R.Write memory write = let h = write refl in (found.0, found.1, (h.0, ([], h.1.0, (Err fault, found.2, (h.1.1, refl))), h.2))
 
-  pub refused : (task : Task) (lines : Option (List ℕ)) (err_old err_new : Stream) (status : ℕ) → IsAlone task → task ≢ Debug → err_new ≡ err_old → Written (λ text. IsRefused fault text status) old new → IsDone task told lines old new (λ text. Sent text err_old err_new) status
+  pub refused : (task : Task) (lines : Option (List ℕ)) (err_old err_new : Stream) (status : ℕ) → IsAlone task → ReadsTextAlone task → err_new ≡ err_old → Written (λ text. IsRefused fault text status) old new → IsDone task told lines old new (λ text. Sent text err_old err_new) status
   refused (Show view) lines err_old err_new status alone reads quiet (text, h, wrote) = (found.0, found.1, (text, (Err fault, found.2, h), wrote))
-  refused Debug lines err_old err_new status alone reads quiet h = absurd (reads refl)
+  refused Debug lines err_old err_new status alone reads quiet h = absurd (reads.0 refl)
+  refused Serve lines err_old err_new status alone reads quiet h = absurd (reads.1 refl)
   refused (Threads limit) lines err_old err_new status alone reads quiet h = absurd alone
   refused (Weave seed limit) lines err_old err_new status alone reads quiet h = refusal_recorded (IsBySeed seed limit) err_old err_new status quiet h
 
@@ -96,9 +98,10 @@ module _ (told : Option (List ℕ)) (fault : ScenarioFault) (found : IsFound tol
   view_refusal view R.Memory memory write = (found.0, found.1, ([], inl refl, wrote_none old new (memory refl)))
   view_refusal view R.Write memory write = let h = write refl in (found.0, found.1, (h.0, (h.1.0, (Err fault, found.2, h.1.1)), h.2))
 
-  pub refusal_stops : (task : Task) (lines left : Option (List ℕ)) (why : RunFault) → IsAlone task → task ≢ Debug → (why ≡ R.Memory → new ≡ old) → (why ≡ R.Write → WrittenInPart (IsRefusedText fault) old new) → IsStoppedCommand task (run_fault why) told lines left old new
+  pub refusal_stops : (task : Task) (lines left : Option (List ℕ)) (why : RunFault) → IsAlone task → ReadsTextAlone task → (why ≡ R.Memory → new ≡ old) → (why ≡ R.Write → WrittenInPart (IsRefusedText fault) old new) → IsStoppedCommand task (run_fault why) told lines left old new
   refusal_stops (Show view) lines left why alone reads memory write = view_refusal view why memory write
-  refusal_stops Debug lines left why alone reads memory write = absurd (reads refl)
+  refusal_stops Debug lines left why alone reads memory write = absurd (reads.0 refl)
+  refusal_stops Serve lines left why alone reads memory write = absurd (reads.1 refl)
   refusal_stops (Threads limit) lines left why alone reads memory write = absurd alone
   refusal_stops (Weave seed limit) lines left why alone reads memory write = refusal_stopped (IsBySeed seed limit) HaveNoThreads why memory write
 

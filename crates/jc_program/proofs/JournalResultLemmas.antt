@@ -1,6 +1,6 @@
 -- About JournalResult: one line, a journal that goes on by one event, and its end. `journal_next` and `journal_events`
 -- use it.
-use Rattle.std.proofs.Common.{◌≡◌, ℕ, ◌+◌, ◌<◌, List, [], ◌∷◌, ◌++◌, length, take, drop, get_or, Bool, Option, Some, None, is_some, option_copied, IfSome, true, false, Result, Ok, Err, IfErr, IsErrOf, inl, inr, refl, sym, ◌∙◌, ap, subst, append-nil, arith}
+use Rattle.std.proofs.Common.{◌≡◌, ℕ, ◌+◌, ◌<◌, List, [], ◌∷◌, ◌++◌, length, take, drop, get_or, Bool, Option, Some, None, is_some, option_copied, IfSome, true, false, refl, sym, ◌∙◌, ap, subst, append-nil, arith}
 use Rattle.std.specs.Borrow.{Bor}
 use Rattle.std.proofs.lemmas.List.{take_more, take-append-drop}
 use Rattle.std.proofs.Math.Seq.{take-length}
@@ -25,22 +25,16 @@ use Rattle.jc_journal.specs.declared.event.NumberedEvent.{NumberedEvent}
 use Rattle.jc_journal.specs.Before.{IsNoted}
 use Rattle.jc_journal.specs.EventLine.{AreEffects, event_line}
 use Rattle.jc_journal.specs.StuckLine.{stuck_event_line}
-use Rattle.jc_io.specs.Written.{Stream, Wrote, WrotePart, Written, WrittenInPart}
-use Rattle.jc_io.proofs.WrittenLemmas.{wrote_both, part_after}
-use Rattle.jc_program.specs.declared.run.RunFault.{RunFault}
-use Rattle.jc_program.specs.declared.run.RunFault.TheVariants.{Write}
-use Rattle.jc_program.specs.JournalResult.{asked_by, IsBehind, CatchesUp, IsLineOf, OfStuckLine, JournalsNext, IsNextLine, JournalsAll, AreLinesDue}
+use Rattle.jc_out.specs.Out.{OutState, AddsText}
+use Rattle.jc_out.proofs.OutLemmas.{adds_both}
+use Rattle.jc_program.specs.JournalResult.{asked_by, IsBehind, CatchesUp, IsLineOf, OfStuckLine, JournalsNext, JournalsAll}
 use Rattle.jc_program.specs.Journals.{Asked, rows_asked, IsEventLine, JournalBy, JournalOf, JournalStops}
+use Rattle.jc_program.specs.PlayResult.{Added}
 use Rattle.jc_program.specs.Runs.{Made, events_of}
 use Rattle.jc_program.proofs.JournalsLemmas.{lines_more, journal_to}
 use Rattle.jc_program.proofs.PlayResultLemmas.{made_count, events_of-append, split_here}
 
 -- ---- one line
-
--- what was written of a text where a write of it failed
-pub cut_of : {T : Type 0} (r : Result T RunFault) (text : List ℕ) (a b : Stream) → IfErr r (λ fault. (fault ≡ Write) × WrotePart text a b) → IsErrOf r Write → WrotePart text a b
-cut_of (Ok v) text a b h k = absurd cc
-cut_of (Err fault) text a b h k = h.1
 
 module _ (asked : Asked) (old new : NetworkHistory) (behind : Option NetworkHistory) (e : NumberedEvent) (before : Before) (noted : IsNoted e.event old.history.now.states before) (rows : Rows) (to : StepsTo old e.event new rows) (rules : Option (List (Rule × ℕ))) (are_rules : rules ≡ rows_asked asked.rules rows.rows) (told : is_some behind ≡ asked.effects) (is_behind : IsBehind behind old.history.now) where
   own_line : (line : List ℕ) → IsLineOf new behind e before rules line → IsEventLine asked e.given old.names e.number e.event rows.rows to.step.step.before to.step.step.after line
@@ -54,11 +48,8 @@ module _ (asked : Asked) (old new : NetworkHistory) (behind : Option NetworkHist
       )
 
   -- an event that was made
-  pub event_sent : (line : List ℕ) (a b : Stream) → IsLineOf new behind e before rules line → Wrote line a b → JournalsNext asked old new e a b false
-  event_sent line a b h wrote = (rows, to, line, own_line line h, wrote)
-
-  pub event_cut : (line : List ℕ) (a b : Stream) → IsLineOf new behind e before rules line → WrotePart line a b → WrittenInPart (IsNextLine asked old.names old.history.now e) a b
-  event_cut line a b h part = (line, inl (rows.rows, new.history.now, to.step, own_line line h), part)
+  pub event_added : (line : List ℕ) (a b : OutState) → IsLineOf new behind e before rules line → AddsText line a b → JournalsNext asked old new e a b false
+  event_added line a b h added = (rows, to, line, own_line line h, added)
 
 -- ---- the network behind
 
@@ -129,21 +120,18 @@ module _ (asked : Asked) (old new : NetworkHistory) (e : NumberedEvent) (s : Stu
     named = subst (λ (c : NetworkHistory). AreNamed e.event (length c.names)) (sym same) named;
   }
 
-  pub stuck_sent : (a b : Stream) → OfStuckLine new e s (λ line. Wrote line a b) → JournalsNext asked old new e a b true
-  stuck_sent a b h = (same, x.why, x.stuck, of_stuck_own (λ line. Wrote line a b) h)
-
-  pub stuck_cut : (a b : Stream) → OfStuckLine new e s (λ line. WrotePart line a b) → WrittenInPart (IsNextLine asked old.names old.history.now e) a b
-  stuck_cut a b h = (stuck_own, inr (x.why, x.stuck, refl), of_stuck_own (λ line. WrotePart line a b) h)
+  pub stuck_added : (a b : OutState) → OfStuckLine new e s (λ line. AddsText line a b) → JournalsNext asked old new e a b true
+  stuck_added a b h = (same, x.why, x.stuck, of_stuck_own (λ line. AddsText line a b) h)
 
 -- ---- all events
 
--- the events before a place of the list were made, and their lines were written
-pub record LinesGoOn (asked : Asked) (given : Bool) (old new : NetworkHistory) (es : List Event) (i : ℕ) (a c : Stream) : Type 0 where
+-- the events before a place of the list were made, and their lines were added
+pub record LinesGoOn (asked : Asked) (given : Bool) (old new : NetworkHistory) (es : List Event) (i : ℕ) (a c : OutState) : Type 0 where
   pub made : List Made
   pub text : List ℕ
   pub goes : JournalBy asked given old.names 1 old.history.now made new.history.now text
   pub taken : take i es ≡ events_of made
-  pub wrote : Wrote text a c
+  pub added : AddsText text a c
   pub names : new.names ≡ old.names
 
 -- the numbered event is the one at the place
@@ -159,7 +147,7 @@ numbered_event given es i n d = record { event = get_or es i d; number = n; give
 pub numbered_at : (given : Bool) (es : List Event) (i n : ℕ) (d : Event) → i < length es → n ≡ i + 1 → IsNumbered given es i d (numbered_event given es i n d)
 numbered_at given es i n d inside number = record { inside = inside; event = refl; number = number; given_is = refl }
 
-module _ (asked : Asked) (given : Bool) (old now new : NetworkHistory) (es : List Event) (i : ℕ) (d : Event) (e : NumberedEvent) (a b c : Stream) (so_far : LinesGoOn asked given old now es i a b) (at : IsNumbered given es i d e) where
+module _ (asked : Asked) (given : Bool) (old now new : NetworkHistory) (es : List Event) (i : ℕ) (d : Event) (e : NumberedEvent) (a b c : OutState) (so_far : LinesGoOn asked given old now es i a b) (at : IsNumbered given es i d e) where
   abbrev made : List Made
   made = so_far.made
 
@@ -180,10 +168,6 @@ module _ (asked : Asked) (given : Bool) (old now new : NetworkHistory) (es : Lis
   taken_more m is =
       take_more es i d at.inside ∙ (ap (λ l. l ++ get_or es i d ∷ []) so_far.taken ∙ (ap (λ x. events_of made ++ x ∷ []) (sym at.event ∙ is) ∙ sym (events_of-append made m)))
 
-  -- and all
-  events_split : (m : Made) → e.event ≡ m.0 → es ≡ events_of (made ++ m ∷ []) ++ drop (i + 1) es
-  events_split m is = sym (take-append-drop (i + 1) es) ∙ ap (λ l. l ++ drop (i + 1) es) (taken_more m is)
-
   -- its line by the names, the number and the list that the journal has
   line_as : (event : Event) (rows : List (Rule × ℕ)) (A B : State) (line : List ℕ) → IsEventLine asked e.given now.names e.number event rows A B line → IsEventLine asked given old.names (1 + length made) event rows A B line
   line_as event rows A B line (x, are, is) =
@@ -195,7 +179,7 @@ module _ (asked : Asked) (given : Bool) (old now new : NetworkHistory) (es : Lis
   -- it was made
   pub line_here : (stuck : Bool) → stuck ≡ false → JournalsNext asked now new e b c stuck → LinesGoOn asked given old new es (i + 1) a c
   line_here true none h = let f : true ≡ false = none in cc
-  line_here false none (rows, to, line, own, wrote) =
+  line_here false none (rows, to, line, own, more) =
       let names = so_far.names in
       let is = line_as e.event rows.rows to.step.step.before to.step.step.after line own in
       record {
@@ -203,7 +187,7 @@ module _ (asked : Asked) (given : Bool) (old now new : NetworkHistory) (es : Lis
         text = text ++ line;
         goes = lines_more asked given old.names 1 old.history.now made now.history.now text e.event rows.rows new.history.now line so_far.goes to.step is;
         taken = taken_more (e.event, rows.rows) refl;
-        wrote = wrote_both a b c text line so_far.wrote wrote;
+        added = adds_both a b c text line so_far.added more;
         names = to.names ∙ names;
       }
 
@@ -222,7 +206,7 @@ module _ (asked : Asked) (given : Bool) (old now new : NetworkHistory) (es : Lis
   -- it is stuck
   pub line_stops : (stuck : Bool) → stuck ≡ true → JournalsNext asked now new e b c stuck → JournalsAll asked given old new es a c true
   line_stops false some h = let f : false ≡ true = some in cc
-  line_stops true some (same, why, stuck, wrote) =
+  line_stops true some (same, why, stuck, more) =
       let network : new.history.now ≡ now.history.now = ap (λ (v : NetworkHistory). v.history.now) same in
       let line = stuck_event_line old.names given (length made + 1) now.history.now.states why (get_or es i d) in
       record {
@@ -231,31 +215,10 @@ module _ (asked : Asked) (given : Bool) (old now new : NetworkHistory) (es : Lis
         journal = subst (λ (N : Network). JournalOf asked given old.names old.history.now es N (Some (get_or es i d, why)) (text ++ line)) (sym network) (stuck_journal why stuck);
         tells = refl;
         names = ap (λ (v : NetworkHistory). v.names) same ∙ so_far.names;
-        written = subst (λ (t : List ℕ). Wrote (text ++ t) a c) (stuck_is why) (wrote_both a b c text _ so_far.wrote wrote);
+        added = subst (λ (t : List ℕ). AddsText (text ++ t) a c) (stuck_is why) (adds_both a b c text _ so_far.added more);
       }
 
-  -- its line was begun
-  pub line_begun : WrittenInPart (IsNextLine asked now.names now.history.now e) b c → WrittenInPart (AreLinesDue asked given old.names old.history.now es) a c
-  line_begun (line, inl (rows, to, step, own), part) =
-      let same = line_as e.event rows step.step.before step.step.after line own in (
-        text ++ line,
-        inl (record {
-          made = made ++ (e.event, rows) ∷ [];
-          more = drop (i + 1) es;
-          last = to;
-          goes = lines_more asked given old.names 1 old.history.now made now.history.now text e.event rows to line so_far.goes step same;
-          are_first = events_split (e.event, rows) refl;
-        }),
-        part_after a b c text line so_far.wrote part,
-      )
-  line_begun (line, inr (why, stuck, is), part) =
-      let own = stuck_event_line old.names given (length made + 1) now.history.now.states why (get_or es i d) in (
-        text ++ own,
-        inr (now.history.now, (get_or es i d, why), stuck_journal why stuck),
-        subst (λ (t : List ℕ). WrotePart (text ++ t) a c) (is ∙ stuck_is why) (part_after a b c text line so_far.wrote part),
-      )
-
-module _ (asked : Asked) (given : Bool) (old now : NetworkHistory) (es : List Event) (i : ℕ) (a b : Stream) (so_far : LinesGoOn asked given old now es i a b) where
+module _ (asked : Asked) (given : Bool) (old now : NetworkHistory) (es : List Event) (i : ℕ) (a b : OutState) (so_far : LinesGoOn asked given old now es i a b) where
   -- where the network begins they are as they were
   pub lines_begin : (last : NetworkHistory) → last ≡ record now { history = begun now.history.now } → LinesGoOn asked given old last es i a b
   lines_begin last is = record {
@@ -263,7 +226,7 @@ module _ (asked : Asked) (given : Bool) (old now : NetworkHistory) (es : List Ev
     text = so_far.text;
     goes = subst (λ (n : Network). JournalBy asked given old.names 1 old.history.now so_far.made n so_far.text) (sym (ap (λ (k : NetworkHistory). k.history.now) is)) so_far.goes;
     taken = so_far.taken;
-    wrote = so_far.wrote;
+    added = so_far.added;
     names = ap (λ (k : NetworkHistory). k.names) is ∙ so_far.names;
   }
 
@@ -277,11 +240,11 @@ module _ (asked : Asked) (given : Bool) (old now : NetworkHistory) (es : List Ev
         journal = record { made = so_far.made; lines = so_far.text; goes = so_far.goes; ends = whole; written = sym (append-nil so_far.text) };
         tells = refl;
         names = so_far.names;
-        written = so_far.wrote;
+        added = so_far.added;
       }
 
-  -- those before a want of memory
-  pub lines_stand : (c : Stream) (d : Event) → i < length es → c ≡ b → Written (JournalStops asked given old.names old.history.now es) a c
+  -- those before a halt
+  pub lines_stand : (c : OutState) (d : Event) → i < length es → c ≡ b → Added (JournalStops asked given old.names old.history.now es) a c
   lines_stand c d inside same = (
     so_far.text,
     record {
@@ -292,5 +255,5 @@ module _ (asked : Asked) (given : Bool) (old now : NetworkHistory) (es : List Ev
       goes = so_far.goes;
       are_first = split_here es i so_far.made d inside so_far.taken;
     },
-    subst (λ (s : Stream). Wrote so_far.text a s) (sym same) so_far.wrote,
+    subst (λ (o : OutState). AddsText so_far.text a o) (sym same) so_far.added,
   )

@@ -1,4 +1,4 @@
--- About Journals (Journaled): the journal of a scenario, whole or up to a fault. `journal_through` uses it.
+-- About Journals (Journaled): the journal of a scenario, whole or up to a halt. `add_journal` uses it.
 use Rattle.std.proofs.Common.{◌≡◌, ℕ, List, [], ◌++◌, length, All, is_some, Bool, Option, Some, None, true, false, inl, inr, refl, sym, ◌∙◌, ap, subst}
 use Rattle.jc_rules.specs.declared.operation.Event.{Event}
 use Rattle.jc_rules.specs.Step.{Network}
@@ -8,18 +8,18 @@ use Rattle.jc_rules.specs.History as H
 use Rattle.jc_network.specs.NetworkHistory.{NetworkHistory}
 use Rattle.jc_network.specs.Given.{before_given, IsBeforeGiven}
 use Rattle.jc_cli.specs.declared.order.View.TheVariants.{Journal}
-use Rattle.jc_io.specs.Written.{Stream, Wrote, Written, WrittenInPart}
-use Rattle.jc_io.proofs.WrittenLemmas.{wrote_none, wrote_both, part_after}
-use Rattle.jc_program.specs.JournalResult.{JournalsAll, JournalBegins, AreLinesDue, IsJournalDue}
+use Rattle.jc_out.specs.Out.{OutState, AddsText}
+use Rattle.jc_out.proofs.OutLemmas.{adds_nothing, adds_both}
+use Rattle.jc_program.specs.JournalResult.{JournalsAll}
 use Rattle.jc_program.specs.Journals.{Asked, JournalOf, Journaled, given_stuck, ran, JournalStops, IsJournalUnfinished}
+use Rattle.jc_program.specs.PlayResult.{Added}
 use Rattle.jc_program.specs.Runs.{Stuck, status_of}
 use Rattle.jc_program.specs.ViewText.{Shows}
-use Rattle.jc_program.proofs.JournalsLemmas.{journal_as, begins_as, stops_as}
+use Rattle.jc_program.proofs.JournalsLemmas.{journal_as, stops_as}
 
--- where there was no memory for the network, nothing was written
-pub nothing_journaled : (asked : Asked) (s : Scenario) (a b : Stream) → b ≡ a → Written (IsJournalUnfinished asked s) a b
-nothing_journaled asked s a b same =
-    ([], inl refl, wrote_none a b same)
+-- where there was no memory for the network, nothing was added
+pub nothing_journaled : (asked : Asked) (s : Scenario) (o : OutState) → Added (IsJournalUnfinished asked s) o o
+nothing_journaled asked s o = ([], inl refl, adds_nothing o o refl)
 
 -- the status for a stuck event, and that for none
 some_status : (stuck : Option Stuck) → is_some stuck ≡ true → status_of stuck ≡ 3
@@ -37,12 +37,12 @@ all_named names ns events es p q h =
 
 -- ---- the given events
 
--- All given events were made and their lines were written, and the network begins there.
-pub record HasLed (asked : Asked) (s : Scenario) (begun : NetworkHistory) (a b : Stream) : Type 0 where
+-- All given events were made and their lines were added, and the network begins there.
+pub record HasLed (asked : Asked) (s : Scenario) (begun : NetworkHistory) (a b : OutState) : Type 0 where
   pub start : Network
   pub first : List ℕ
   pub given : JournalOf asked true s.names (before_given s) s.given start None first
-  pub wrote : Wrote first a b
+  pub added : AddsText first a b
   pub names : begun.names ≡ s.names
   pub network : begun.history.now ≡ start
 
@@ -53,9 +53,6 @@ module _ (asked : Asked) (s : Scenario) (first : NetworkHistory) (from : IsBefor
   given_stops_at : (text : List ℕ) → JournalStops asked true first.names first.history.now given text → JournalStops asked true s.names (before_given s) s.given text
   given_stops_at text h = stops_as asked true first.names s.names first.history.now (before_given s) given s.given text from.called from.network are_given h
 
-  given_begins : (text : List ℕ) → JournalBegins asked true first.names first.history.now given text → JournalBegins asked true s.names (before_given s) s.given text
-  given_begins text h = begins_as asked true first.names s.names first.history.now (before_given s) given s.given text from.called from.network are_given h
-
   stuck_journal : (last : Network) (stuck : Option Stuck) (text : List ℕ) → is_some stuck ≡ true → JournalOf asked true first.names first.history.now given last stuck text → Journaled asked s text 3
   stuck_journal last None text e h = let f : false ≡ true = e in cc
   stuck_journal last (Some x) text e h = given_stuck last x (given_journal last (Some x) text h)
@@ -65,35 +62,27 @@ module _ (asked : Asked) (s : Scenario) (first : NetworkHistory) (from : IsBefor
   whole_journal last (Some x) text e h = let f : true ≡ false = e in cc
 
   -- one is stuck
-  pub given_stops : (last : NetworkHistory) (a b : Stream) (answer : Bool) → answer ≡ true → JournalsAll asked true first last given a b answer → Written (λ text. Shows (Journal asked.rules asked.effects) s text 3) a b
-  given_stops last a b answer some h = (h.text, stuck_journal last.history.now h.stuck h.text (h.tells ∙ some) h.journal, h.written)
+  pub given_stops : (last : NetworkHistory) (a b : OutState) (answer : Bool) → answer ≡ true → JournalsAll asked true first last given a b answer → Added (λ text. Shows (Journal asked.rules asked.effects) s text 3) a b
+  given_stops last a b answer some h = (h.text, stuck_journal last.history.now h.stuck h.text (h.tells ∙ some) h.journal, h.added)
 
   -- none is
-  pub has_led : (last begun : NetworkHistory) (a b : Stream) (answer : Bool) → answer ≡ false → JournalsAll asked true first last given a b answer → begun ≡ record last { history = H.begun last.history.now } → HasLed asked s begun a b
+  pub has_led : (last begun : NetworkHistory) (a b : OutState) (answer : Bool) → answer ≡ false → JournalsAll asked true first last given a b answer → begun ≡ record last { history = H.begun last.history.now } → HasLed asked s begun a b
   has_led last begun a b answer none h at = record {
     start = last.history.now;
     first = h.text;
     given = whole_journal last.history.now h.stuck h.text (h.tells ∙ none) h.journal;
-    wrote = h.written;
+    added = h.added;
     names = ap (λ (c : NetworkHistory). c.names) at ∙ (h.names ∙ from.called);
     network = ap (λ (c : NetworkHistory). c.history.now) at;
   }
 
   -- the lines of some first ones
-  pub given_stand : (a b : Stream) → Written (JournalStops asked true first.names first.history.now given) a b → Written (IsJournalUnfinished asked s) a b
+  pub given_stand : (a b : OutState) → Added (JournalStops asked true first.names first.history.now given) a b → Added (IsJournalUnfinished asked s) a b
   given_stand a b h = (h.0, inr (inl (given_stops_at h.0 h.1)), h.2)
-
-  -- a line was begun
-  pub given_part : (a b : Stream) → WrittenInPart (AreLinesDue asked true first.names first.history.now given) a b → WrittenInPart (IsJournalDue asked s) a b
-  given_part a b (text, inl begins, part) = (text, inl (inl (given_begins text begins)), part)
-  given_part a b (text, inr (last, x, h), part) = (text, inr (3, given_stuck last x (given_journal last (Some x) text h)), part)
 
 -- ---- the schedule behind them
 
-module _ (asked : Asked) (s : Scenario) (begun : NetworkHistory) (a b : Stream) (led : HasLed asked s begun a b) (schedule : List Event) (are_scheduled : schedule ≡ s.schedule) where
-  later_begins : (text : List ℕ) → JournalBegins asked false begun.names begun.history.now schedule text → JournalBegins asked false s.names led.start s.schedule text
-  later_begins text h = begins_as asked false begun.names s.names begun.history.now led.start schedule s.schedule text led.names led.network are_scheduled h
-
+module _ (asked : Asked) (s : Scenario) (begun : NetworkHistory) (a b : OutState) (led : HasLed asked s begun a b) (schedule : List Event) (are_scheduled : schedule ≡ s.schedule) where
   later_stops : (text : List ℕ) → JournalStops asked false begun.names begun.history.now schedule text → JournalStops asked false s.names led.start s.schedule text
   later_stops text h = stops_as asked false begun.names s.names begun.history.now led.start schedule s.schedule text led.names led.network are_scheduled h
 
@@ -102,23 +91,16 @@ module _ (asked : Asked) (s : Scenario) (begun : NetworkHistory) (a b : Stream) 
       ran led.start last stuck led.first text led.given (journal_as asked false begun.names s.names begun.history.now led.start schedule s.schedule last stuck text led.names led.network are_scheduled h) refl
 
   -- one of its events is stuck
-  pub schedule_stops : (last : NetworkHistory) (c : Stream) (answer : Bool) → answer ≡ true → JournalsAll asked false begun last schedule b c answer → Written (λ text. Shows (Journal asked.rules asked.effects) s text 3) a c
+  pub schedule_stops : (last : NetworkHistory) (c : OutState) (answer : Bool) → answer ≡ true → JournalsAll asked false begun last schedule b c answer → Added (λ text. Shows (Journal asked.rules asked.effects) s text 3) a c
   schedule_stops last c answer some h =
-      (led.first ++ h.text, subst (λ (n : ℕ). Journaled asked s (led.first ++ h.text) n) (some_status h.stuck (h.tells ∙ some)) (journaled last.history.now h.stuck h.text h.journal), wrote_both a b c led.first h.text led.wrote h.written)
+      (led.first ++ h.text, subst (λ (n : ℕ). Journaled asked s (led.first ++ h.text) n) (some_status h.stuck (h.tells ∙ some)) (journaled last.history.now h.stuck h.text h.journal), adds_both a b c led.first h.text led.added h.added)
 
   -- none is
-  pub schedule_ends : (last : NetworkHistory) (c : Stream) (answer : Bool) → answer ≡ false → JournalsAll asked false begun last schedule b c answer → Written (λ text. Shows (Journal asked.rules asked.effects) s text 0) a c
+  pub schedule_ends : (last : NetworkHistory) (c : OutState) (answer : Bool) → answer ≡ false → JournalsAll asked false begun last schedule b c answer → Added (λ text. Shows (Journal asked.rules asked.effects) s text 0) a c
   schedule_ends last c answer none h =
-      (led.first ++ h.text, subst (λ (n : ℕ). Journaled asked s (led.first ++ h.text) n) (none_status h.stuck (h.tells ∙ none)) (journaled last.history.now h.stuck h.text h.journal), wrote_both a b c led.first h.text led.wrote h.written)
+      (led.first ++ h.text, subst (λ (n : ℕ). Journaled asked s (led.first ++ h.text) n) (none_status h.stuck (h.tells ∙ none)) (journaled last.history.now h.stuck h.text h.journal), adds_both a b c led.first h.text led.added h.added)
 
   -- the lines of some first ones
-  pub schedule_stand : (c : Stream) → Written (JournalStops asked false begun.names begun.history.now schedule) b c → Written (IsJournalUnfinished asked s) a c
+  pub schedule_stand : (c : OutState) → Added (JournalStops asked false begun.names begun.history.now schedule) b c → Added (IsJournalUnfinished asked s) a c
   schedule_stand c h =
-      (led.first ++ h.0, inr (inr (led.start, led.first, h.0, led.given, later_stops h.0 h.1, refl)), wrote_both a b c led.first h.0 led.wrote h.2)
-
-  -- a line was begun
-  pub schedule_part : (c : Stream) → WrittenInPart (AreLinesDue asked false begun.names begun.history.now schedule) b c → WrittenInPart (IsJournalDue asked s) a c
-  schedule_part c (text, inl begins, part) =
-      (led.first ++ text, inl (inr (led.start, led.first, text, led.given, later_begins text begins, refl)), part_after a b c led.first text led.wrote part)
-  schedule_part c (text, inr (last, x, h), part) =
-      (led.first ++ text, inr (3, journaled last (Some x) text h), part_after a b c led.first text led.wrote part)
+      (led.first ++ h.0, inr (inr (led.start, led.first, h.0, led.given, later_stops h.0 h.1, refl)), adds_both a b c led.first h.0 led.added h.2)

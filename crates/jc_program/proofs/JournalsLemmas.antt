@@ -17,7 +17,6 @@ use Rattle.jc_journal.specs.EventLine.{event_line}
 use Rattle.jc_journal.proofs.EventEffectsLemmas.{told_effects, same_effects}
 use Rattle.jc_journal.specs.StuckLine.{stuck_event_line}
 use Rattle.jc_program.specs.Journals.{Asked, rows_asked, IsEventLine, JournalBy, JournalOf, JournalStops}
-use Rattle.jc_program.specs.JournalResult.{JournalBegins}
 use Rattle.jc_program.specs.Runs.{Made, Stuck, GoesBy, events_of}
 use Rattle.jc_program.proofs.PlayResultLemmas.{split_here}
 
@@ -143,12 +142,6 @@ journal_as asked given names ns network N events es last stuck text p q r h =
     subst (λ (x : List (List ℕ)). JournalOf asked given x N es last stuck text) p
     (subst (λ (x : Network). JournalOf asked given names x es last stuck text) q
     (subst (λ (x : List Event). JournalOf asked given names network x last stuck text) r h))
-
-pub begins_as : (asked : Asked) (given : Bool) (names ns : List (List ℕ)) (network N : Network) (events es : List Event) (text : List ℕ) → names ≡ ns → network ≡ N → events ≡ es → JournalBegins asked given names network events text → JournalBegins asked given ns N es text
-begins_as asked given names ns network N events es text p q r h =
-    subst (λ (x : List (List ℕ)). JournalBegins asked given x N es text) p
-    (subst (λ (x : Network). JournalBegins asked given names x es text) q
-    (subst (λ (x : List Event). JournalBegins asked given names network x text) r h))
 
 pub stops_as : (asked : Asked) (given : Bool) (names ns : List (List ℕ)) (network N : Network) (events es : List Event) (text : List ℕ) → names ≡ ns → network ≡ N → events ≡ es → JournalStops asked given names network events text → JournalStops asked given ns N es text
 stops_as asked given names ns network N events es text p q r h =

@@ -17,6 +17,7 @@ pub mod CommandsLemmas
 pub mod ThreadRunsLemmas
 pub mod FoundLemmas
 pub mod WeaveRunsLemmas
+mod ServedLemmas
 mod PromiseLemmas
 mod PromiseFactsLemmas
 mod EndsLemmas

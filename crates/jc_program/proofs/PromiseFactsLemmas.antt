@@ -4,20 +4,20 @@ use Rattle.std.proofs.lemmas.Option.{same_Some}
 use Rattle.jc_cli.specs.Arguments.{words_order, AsksHelp, IsFaultless}
 use Rattle.jc_cli.specs.declared.order.Order.{Order}
 use Rattle.jc_cli.specs.declared.order.Task.{Task}
-use Rattle.jc_cli.specs.declared.order.Task.TheVariants.{Show, Debug, Threads, Weave}
+use Rattle.jc_cli.specs.declared.order.Task.TheVariants.{Show, Debug, Serve, Threads, Weave}
 use Rattle.jc_program.specs.declared.fault.WorkFault.{WorkFault}
-use Rattle.jc_program.specs.declared.fault.WorkFault.TheVariants.{Read, Write, TooManyLines, NoThread, Memory}
+use Rattle.jc_program.specs.declared.fault.WorkFault.TheVariants.{Read, Write, TooManyLines, CutShort, NoThread, Memory}
 use Rattle.jc_program.specs.WorkFaults.{fault_status, fault_line}
 use Rattle.jc_program.specs.ViewOutput.{AreTold, told_by}
 use Rattle.jc_program.specs.Faults.{IsCause, IsUnread}
 use Rattle.jc_program.specs.SessionRuns.{lines_by}
-use Rattle.jc_program.specs.Commands.{IsAlone, IsSilent, IsDone, IsStoppedCommand, IsThreadsOrder, IsWeaveOrder}
+use Rattle.jc_program.specs.Commands.{IsAlone, IsSilent, ReadsTextAlone, IsDone, IsStoppedCommand, IsThreadsOrder, IsWeaveOrder}
 use Rattle.jc_program.specs.ThreadRuns.{IsByThreads, AreThreadScenario, Records, HaveThreaded, IsThreadsFault}
 use Rattle.jc_program.specs.WeaveRuns.{IsBySeed}
 use Rattle.jc_io.specs.Streams.{ConsumesUpTo}
 use Rattle.jc_runner.specs.declared.starting.SpawnRefused.{SpawnRefused}
 use Rattle.jc_io.specs.Written.{Stream}
-use Rattle.jc_program.specs.Promise.{World, Files, Promise, All, Says, Carried, Stopped, Completes, Breaks, done, text_refused, stuck, given_stuck, thread_starved, help, usage, read_failed, write_failed, help_write_failed, too_many_lines, no_thread, no_memory, no_memory_for_words}
+use Rattle.jc_program.specs.Promise.{World, Files, Promise, All, Says, Carried, Stopped, Completes, Breaks, done, text_refused, stuck, given_stuck, thread_starved, help, usage, read_failed, write_failed, help_write_failed, too_many_lines, cut_short, no_thread, no_memory, no_memory_for_words}
 use Rattle.jc_cli.specs.Laws.{FaultlessAreOrders}
 use Rattle.jc_cli.proofs.ProgramCommandsLemmas.{asks_none}
 use Rattle.jc_program.specs.PromiseFacts.{OrderFact, DoneFact, StoppedFact, ThreadsFact, HelpFact, LostFact, FaultyFact, SilentFact, UnshownFact, ShownFact, UsageFact, UnreadFact, OtherFileFact, MostFact, FailedFact, MemoryLineFact, QuietFact, Facts}
@@ -48,6 +48,7 @@ woven_not_starved seed limit bytes out lines (Err fault, is, h) = let e : ◌≡
 pub not_starved : (task : Task) (bytes : List ℕ) (lines : Option (List ℕ)) (old new : World) → IsAlone task → Completes task bytes lines old new 5 → ⊥
 not_starved (Show view) bytes lines old new alone h = five_is_no_end bytes (E.of_view view bytes h.0.0 5 h.0.1)
 not_starved Debug bytes lines old new alone h = five_is_no_end bytes (E.of_session bytes lines h.0.0 old.out new.out 5 h.0.1 h.0.2)
+not_starved Serve bytes lines old new alone h = let e : ◌≡◌ {A = ℕ} 5 0 = h.0.0 in cc
 not_starved (Threads limit) bytes lines old new alone h = absurd alone
 not_starved (Weave seed limit) bytes lines old new alone h = woven_not_starved seed limit bytes h.1.0 h.0 h.1.1
 
@@ -83,6 +84,7 @@ faultless_some law (w ∷ ws) free none = none_some none (law w ws free).1
 breaks_stop : (task : Task) (fault : WorkFault) (bytes : List ℕ) (told lines left : Option (List ℕ)) (old new : Stream) → AreTold told bytes → IsAlone task → Breaks task fault bytes lines left old new → IsStoppedCommand task fault told lines left old new
 breaks_stop (Show view) fault bytes told lines left old new is alone h = (bytes, is, h)
 breaks_stop Debug fault bytes told lines left old new is alone h = (bytes, is, h)
+breaks_stop Serve fault bytes told lines left old new is alone h = h
 breaks_stop (Threads limit) fault bytes told lines left old new is alone h = absurd alone
 breaks_stop (Weave seed limit) fault bytes told lines left old new is alone h = (bytes, is, h)
 
@@ -103,18 +105,21 @@ of_stop files words old new n fault status s cause order some alone ends =
 complete_done : (task : Task) (bytes : List ℕ) (told lines : Option (List ℕ)) (old new : World) (n : ℕ) → IsAlone task → AreTold told bytes → Completes task bytes lines old new n → IsDone task told lines old.out new.out (Says old new) n
 complete_done (Show view) bytes told lines old new n alone is h = (bytes, is, h.0)
 complete_done Debug bytes told lines old new n alone is h = (bytes, is, h.0)
+complete_done Serve bytes told lines old new n alone is h = h.0
 complete_done (Threads limit) bytes told lines old new n alone is h = absurd alone
 complete_done (Weave seed limit) bytes told lines old new n alone is h = (bytes, is, h)
 
 pub complete_quiet : (task : Task) (bytes : List ℕ) (lines : Option (List ℕ)) (old new : World) (n : ℕ) → IsSilent task → Completes task bytes lines old new n → new.err ≡ old.err
 complete_quiet (Show view) bytes lines old new n silent h = h.1
 complete_quiet Debug bytes lines old new n silent h = h.1
+complete_quiet Serve bytes lines old new n silent h = h.1
 complete_quiet (Threads limit) bytes lines old new n silent h = absurd silent
 complete_quiet (Weave seed limit) bytes lines old new n silent h = absurd silent
 
 pub unthreaded : (refused : SpawnRefused) (task : Task) (bytes : List ℕ) (lines left : Option (List ℕ)) (old new : Stream) → IsAlone task → Breaks task (NoThread refused) bytes lines left old new → ⊥
 unthreaded refused (Show view) bytes lines left old new alone h = h
 unthreaded refused Debug bytes lines left old new alone h = h
+unthreaded refused Serve bytes lines left old new alone h = h
 unthreaded refused (Threads limit) bytes lines left old new alone h = absurd alone
 unthreaded refused (Weave seed limit) bytes lines left old new alone h = h.1
 
@@ -122,6 +127,7 @@ fault_ends : (fault : WorkFault) (n : ℕ) → n ≡ fault_status fault → n �
 fault_ends Read n e four five = four e
 fault_ends Write n e four five = four e
 fault_ends TooManyLines n e four five = four e
+fault_ends CutShort n e four five = four e
 fault_ends (NoThread refused) n e four five = five e
 fault_ends Memory n e four five = five e
 
@@ -131,7 +137,9 @@ fault_no_refusal Read n e (inr three) = cc
 fault_no_refusal Write n e (inl one) = cc
 fault_no_refusal Write n e (inr three) = cc
 fault_no_refusal TooManyLines n e (inl one) = cc
+fault_no_refusal CutShort n e (inl one) = cc
 fault_no_refusal TooManyLines n e (inr three) = cc
+fault_no_refusal CutShort n e (inr three) = cc
 fault_no_refusal (NoThread refused) n e (inl one) = cc
 fault_no_refusal (NoThread refused) n e (inr three) = cc
 fault_no_refusal Memory n e (inl one) = cc
@@ -167,6 +175,7 @@ module _ (Does : Task → Type 0) (files : Files) (words : List (List ℕ)) (old
   stopped_of (write_failed s failed same) order some alone ends = of_stop files words old new 4 Write refl s (same, failed) order some alone ends
   stopped_of (help_write_failed text none by part input says) order some alone ends = absurd (none_some none some)
   stopped_of (too_many_lines s same) order some alone ends = of_stop files words old new 4 TooManyLines refl s (same.input, same.out) order some alone ends
+  stopped_of (cut_short s same) order some alone ends = of_stop files words old new 4 CutShort refl s (same.input, same.out) order some alone ends
   stopped_of (no_thread refused s same) order some alone ends = of_stop files words old new 5 (NoThread refused) refl s (same.input, same.out) order some alone ends
   stopped_of (no_memory s same) order some alone ends = of_stop files words old new 5 Memory refl s (same.input, same.out) order some alone ends
   stopped_of (no_memory_for_words input out says) order some alone ends = (Memory, refl, says, (ap (λ (s : Stream). s.failures) input, ap (λ (s : Stream). s.failures) out), unstarted order input out)
@@ -188,6 +197,7 @@ module _ (Does : Task → Type 0) (files : Files) (words : List (List ℕ)) (old
   help_of (write_failed s failed same) asks = inr (inl refl)
   help_of (help_write_failed text none by part input says) asks = inr (inl refl)
   help_of (too_many_lines s same) asks = inr (inl refl)
+  help_of (cut_short s same) asks = inr (inl refl)
   help_of (no_thread refused s same) asks = inr (inr refl)
   help_of (no_memory s same) asks = inr (inr refl)
   help_of (no_memory_for_words input out says) asks = inr (inr refl)
@@ -205,6 +215,7 @@ module _ (Does : Task → Type 0) (files : Files) (words : List (List ℕ)) (old
   usage_at (write_failed s failed same) e = cc
   usage_at (help_write_failed text none by part input says) e = cc
   usage_at (too_many_lines s same) e = cc
+  usage_at (cut_short s same) e = cc
   usage_at (no_thread refused s same) e = cc
   usage_at (no_memory s same) e = cc
   usage_at (no_memory_for_words input out says) e = cc
@@ -238,6 +249,7 @@ module _ (Does : Task → Type 0) (files : Files) (words : List (List ℕ)) (old
   lost_of (write_failed s failed same) n0 e = absurd (no_stopped n0 s)
   lost_of (help_write_failed text none by part input says) n0 e = ((text, part), says)
   lost_of (too_many_lines s same) n0 e = absurd (no_stopped n0 s)
+  lost_of (cut_short s same) n0 e = absurd (no_stopped n0 s)
   lost_of (no_thread refused s same) n0 e = absurd (no_stopped n0 s)
   lost_of (no_memory s same) n0 e = absurd (no_stopped n0 s)
   lost_of (no_memory_for_words input out says) n0 e = cc
@@ -254,6 +266,7 @@ module _ (Does : Task → Type 0) (files : Files) (words : List (List ℕ)) (old
   faulty_of (write_failed s failed same) n0 e = absurd (no_stopped n0 s)
   faulty_of (help_write_failed text none by part input says) n0 e = absurd (e by)
   faulty_of (too_many_lines s same) n0 e = absurd (no_stopped n0 s)
+  faulty_of (cut_short s same) n0 e = absurd (no_stopped n0 s)
   faulty_of (no_thread refused s same) n0 e = absurd (no_stopped n0 s)
   faulty_of (no_memory s same) n0 e = absurd (no_stopped n0 s)
   faulty_of (no_memory_for_words input out says) n0 e = inr refl
@@ -270,6 +283,7 @@ module _ (Does : Task → Type 0) (files : Files) (words : List (List ℕ)) (old
   unshown_of (write_failed s failed same) n0 e = absurd (no_stopped n0 s)
   unshown_of (help_write_failed text none by part input says) n0 e = cc
   unshown_of (too_many_lines s same) n0 e = absurd (no_stopped n0 s)
+  unshown_of (cut_short s same) n0 e = absurd (no_stopped n0 s)
   unshown_of (no_thread refused s same) n0 e = absurd (no_stopped n0 s)
   unshown_of (no_memory s same) n0 e = absurd (no_stopped n0 s)
   unshown_of (no_memory_for_words input out says) n0 e = out
@@ -286,6 +300,7 @@ module _ (Does : Task → Type 0) (files : Files) (words : List (List ℕ)) (old
   shown_of (write_failed s failed same) n0 e = absurd (no_stopped n0 s)
   shown_of (help_write_failed text none by part input says) n0 e = cc
   shown_of (too_many_lines s same) n0 e = absurd (no_stopped n0 s)
+  shown_of (cut_short s same) n0 e = absurd (no_stopped n0 s)
   shown_of (no_thread refused s same) n0 e = absurd (no_stopped n0 s)
   shown_of (no_memory s same) n0 e = absurd (no_stopped n0 s)
   shown_of (no_memory_for_words input out says) n0 e = cc
@@ -302,6 +317,7 @@ module _ (Does : Task → Type 0) (files : Files) (words : List (List ℕ)) (old
   unread_of (write_failed s failed same) n0 = absurd (no_stopped n0 s)
   unread_of (help_write_failed text none by part input says) n0 = input
   unread_of (too_many_lines s same) n0 = absurd (no_stopped n0 s)
+  unread_of (cut_short s same) n0 = absurd (no_stopped n0 s)
   unread_of (no_thread refused s same) n0 = absurd (no_stopped n0 s)
   unread_of (no_memory s same) n0 = absurd (no_stopped n0 s)
   unread_of (no_memory_for_words input out says) n0 = input
@@ -320,6 +336,7 @@ module _ (Does : Task → Type 0) (files : Files) (words : List (List ℕ)) (old
   failed_of (write_failed s failed same) e = absurd (e refl)
   failed_of (help_write_failed text none by part input says) e = absurd (e refl)
   failed_of (too_many_lines s same) e = absurd (e refl)
+  failed_of (cut_short s same) e = absurd (e refl)
   failed_of (no_thread refused s same) e = (same.input, same.out)
   failed_of (no_memory s same) e = (same.input, same.out)
   failed_of (no_memory_for_words input out says) e = (ap (λ (s : Stream). s.failures) input, ap (λ (s : Stream). s.failures) out)
@@ -349,6 +366,7 @@ module _ (Does : Task → Type 0) (files : Files) (words : List (List ℕ)) (old
   kind_of (write_failed s failed same) = inr (inl (Write, refl, (s, (same, failed))))
   kind_of (help_write_failed text none by part input says) = inr (inr (inr none))
   kind_of (too_many_lines s same) = inr (inl (TooManyLines, refl, (s, (same.input, same.out))))
+  kind_of (cut_short s same) = inr (inl (CutShort, refl, (s, (same.input, same.out))))
   kind_of (no_thread refused s same) = inr (inl (NoThread refused, refl, (s, (same.input, same.out))))
   kind_of (no_memory s same) = inr (inl (Memory, refl, (s, (same.input, same.out))))
   kind_of (no_memory_for_words input out says) = inr (inr (inl (refl, input, out, says)))
@@ -395,11 +413,11 @@ module _ (Does : Task → Type 0) (files : Files) (words : List (List ℕ)) (old
   other_at : {n : ℕ} → Kind n → OtherFileFact files words old new n
   other_at {n} (inl c) order some by other =
       let same : c.order ≡ order = same_Some c.order order (sym c.is_order ∙ some) in
-      subst (λ (o : Order). (o.task ≢ Debug) ⊎ ((n ≡ 1) ⊎ (n ≡ 3)) → o.file ≢ codes "-" → new.input ≡ old.input) same (λ h. (c.reads (no_lines h)).other_file) by other
+      subst (λ (o : Order). ReadsTextAlone o.task ⊎ ((n ≡ 1) ⊎ (n ≡ 3)) → o.file ≢ codes "-" → new.input ≡ old.input) same (λ h. (c.reads (no_lines h)).other_file) by other
   other_at {n} (inr (inl f)) order some (inl by) other =
       let s = f.2.0 in
       let same : s.order ≡ order = same_Some s.order order (sym s.is_order ∙ some) in
-      subst (λ (o : Order). o.task ≢ Debug → o.file ≢ codes "-" → new.input ≡ old.input) same (λ h. (s.reads (inl h)).other_file) by other
+      subst (λ (o : Order). ReadsTextAlone o.task → o.file ≢ codes "-" → new.input ≡ old.input) same (λ h. (s.reads (inl h)).other_file) by other
   other_at {n} (inr (inl f)) order some (inr known) other = absurd (fault_no_refusal f.0 n f.1 known)
   other_at (inr (inr (inl u))) order some by other = u.1
   other_at (inr (inr (inr none))) order some by other = absurd (none_some none some)
@@ -410,11 +428,11 @@ module _ (Does : Task → Type 0) (files : Files) (words : List (List ℕ)) (old
   most_at : {n : ℕ} → Kind n → MostFact files words old new n
   most_at {n} (inl c) order some by =
       let same : c.order ≡ order = same_Some c.order order (sym c.is_order ∙ some) in
-      subst (λ (o : Order). (o.task ≢ Debug) ⊎ (o.file ≡ codes "-") → ConsumesUpTo 8388609 old.input.bytes new.input.bytes) same (λ h. (c.reads (elim h [ inl a ↦ inl a | inr b ↦ inr (inr (inr b)) ])).most) by
+      subst (λ (o : Order). ReadsTextAlone o.task ⊎ (o.file ≡ codes "-") → ConsumesUpTo 8388609 old.input.bytes new.input.bytes) same (λ h. (c.reads (elim h [ inl a ↦ inl a | inr b ↦ inr (inr (inr b)) ])).most) by
   most_at {n} (inr (inl f)) order some by =
       let s = f.2.0 in
       let same : s.order ≡ order = same_Some s.order order (sym s.is_order ∙ some) in
-      subst (λ (o : Order). (o.task ≢ Debug) ⊎ (o.file ≡ codes "-") → ConsumesUpTo 8388609 old.input.bytes new.input.bytes) same (λ h. (s.reads (elim h [ inl a ↦ inl a | inr b ↦ inr (inr (inr b)) ])).most) by
+      subst (λ (o : Order). ReadsTextAlone o.task ⊎ (o.file ≡ codes "-") → ConsumesUpTo 8388609 old.input.bytes new.input.bytes) same (λ h. (s.reads (elim h [ inl a ↦ inl a | inr b ↦ inr (inr (inr b)) ])).most) by
   most_at (inr (inr (inl u))) order some by = loses_none old.input.bytes new.input.bytes (ap (λ (s : Stream). s.bytes) u.1)
   most_at (inr (inr (inr none))) order some by = absurd (none_some none some)
 
@@ -438,6 +456,7 @@ module _ (Does : Task → Type 0) (files : Files) (words : List (List ℕ)) (old
   memory_line_of (write_failed s failed same) alone e = cc
   memory_line_of (help_write_failed text none by part input says) alone e = cc
   memory_line_of (too_many_lines s same) alone e = cc
+  memory_line_of (cut_short s same) alone e = cc
   memory_line_of (no_thread refused s same) alone e = absurd (unthreaded refused s.order.task s.bytes (lines_by old.input.bytes s.order.file) (lines_by new.input.bytes s.order.file) old.out new.out (alone_of s.order s.is_order alone) s.breaks)
   memory_line_of (no_memory s same) alone e = s.line
   memory_line_of (no_memory_for_words input out says) alone e = says
@@ -460,6 +479,7 @@ module _ (Does : Task → Type 0) (files : Files) (words : List (List ℕ)) (old
   quiet_of (write_failed s failed same) alone still two four five = absurd (four refl)
   quiet_of (help_write_failed text none by part input says) alone still two four five = absurd (four refl)
   quiet_of (too_many_lines s same) alone still two four five = absurd (four refl)
+  quiet_of (cut_short s same) alone still two four five = absurd (four refl)
   quiet_of (no_thread refused s same) alone still two four five = absurd (five refl)
   quiet_of (no_memory s same) alone still two four five = absurd (five refl)
   quiet_of (no_memory_for_words input out says) alone still two four five = absurd (five refl)
@@ -512,6 +532,7 @@ module _ (files : Files) (words : List (List ℕ)) (old new : World) where
     starving (write_failed s failed same) = absurd (waits s.order s.is_order s.does)
     starving (help_write_failed text none by part input says) = absurd (none_some none some)
     starving (too_many_lines s same) = absurd (waits s.order s.is_order s.does)
+    starving (cut_short s same) = absurd (waits s.order s.is_order s.does)
     starving (no_thread refused s same) = absurd (waits s.order s.is_order s.does)
     starving (no_memory s same) = absurd (waits s.order s.is_order s.does)
     starving (no_memory_for_words input out says) = (refl, out)
@@ -528,6 +549,7 @@ module _ (files : Files) (words : List (List ℕ)) (old new : World) where
   line_of (write_failed s failed same) e = cc
   line_of (help_write_failed text none by part input says) e = cc
   line_of (too_many_lines s same) e = cc
+  line_of (cut_short s same) e = cc
   line_of (no_thread refused s same) e = absurd (unthreaded refused s.order.task s.bytes (lines_by old.input.bytes s.order.file) (lines_by new.input.bytes s.order.file) old.out new.out s.does s.breaks)
   line_of (no_memory s same) e = s.line
   line_of (no_memory_for_words input out says) e = says
@@ -547,6 +569,7 @@ module _ (files : Files) (words : List (List ℕ)) (old new : World) where
   calm_of still (write_failed s failed same) two four five = absurd (four refl)
   calm_of still (help_write_failed text none by part input says) two four five = absurd (four refl)
   calm_of still (too_many_lines s same) two four five = absurd (four refl)
+  calm_of still (cut_short s same) two four five = absurd (four refl)
   calm_of still (no_thread refused s same) two four five = absurd (five refl)
   calm_of still (no_memory s same) two four five = absurd (five refl)
   calm_of still (no_memory_for_words input out says) two four five = absurd (five refl)

@@ -11,9 +11,9 @@ use Rattle.jc_cli.specs.declared.fault.WordsFault.{WordsFault}
 use Rattle.jc_cli.specs.declared.fault.WordsFault.TheVariants as W
 use Rattle.jc_cli.specs.declared.order.Order.{Order}
 use Rattle.jc_cli.specs.declared.order.Task.{Task}
-use Rattle.jc_cli.specs.declared.order.Task.TheVariants.{Show, Debug, Threads, Weave}
+use Rattle.jc_cli.specs.declared.order.Task.TheVariants.{Show, Debug, Serve, Threads, Weave}
 use Rattle.jc_program.specs.declared.fault.WorkFault.{WorkFault}
-use Rattle.jc_program.specs.declared.fault.WorkFault.TheVariants.{Read, Write, TooManyLines, NoThread, Memory}
+use Rattle.jc_program.specs.declared.fault.WorkFault.TheVariants.{Read, Write, TooManyLines, CutShort, NoThread, Memory}
 use Rattle.jc_program.specs.declared.recording.Outcome.{Outcome}
 use Rattle.jc_program.specs.declared.recording.Recording.{Recording}
 use Rattle.jc_program.specs.declared.recording.Outcome.TheVariants as O
@@ -23,9 +23,10 @@ use Rattle.jc_program.specs.Faults.{IsCause, IsUnread}
 use Rattle.jc_program.specs.SessionRuns.{lines_by}
 use Rattle.jc_program.specs.ThreadRuns.{outcome_status, Records, IsByThreads, HaveThreaded, HaveStopped}
 use Rattle.jc_program.specs.WeaveRuns.{IsBySeed}
-use Rattle.jc_program.specs.Commands.{IsAlone, IsSilent, IsDone, IsStoppedCommand}
+use Rattle.jc_program.specs.Commands.{IsAlone, IsSilent, ReadsTextAlone, IsDone, IsStoppedCommand}
 use Rattle.jc_io.specs.Written.{Stream}
-use Rattle.jc_program.specs.Promise.{World, Files, NoneFailed, ReadsFor, HasStart, Promise, All, Says, Carried, Stopped, Completes, Breaks, done, text_refused, stuck, given_stuck, thread_starved, help, usage, read_failed, write_failed, help_write_failed, too_many_lines, no_thread, no_memory, no_memory_for_words}
+use Rattle.jc_program.specs.Promise.{World, Files, NoneFailed, ReadsFor, HasStart, Promise, All, Says, Carried, Stopped, Completes, Breaks, done, text_refused, stuck, given_stuck, thread_starved, help, usage, read_failed, write_failed, help_write_failed, too_many_lines, cut_short, no_thread, no_memory, no_memory_for_words}
+use Rattle.jc_program.proofs.FoundLemmas.{some_bytes}
 use Rattle.jc_program.proofs.CommandsLemmas as E
 
 -- ---- tasks
@@ -34,6 +35,7 @@ use Rattle.jc_program.proofs.CommandsLemmas as E
 completed : (task : Task) (told lines : Option (List ℕ)) (old new : World) (n : ℕ) → IsDone task told lines old.out new.out (Says old new) n → (IsSilent task → new.err ≡ old.err) → (bytes : List ℕ) × AreTold told bytes × Completes task bytes lines old new n
 completed (Show view) told lines old new n h quiet = (h.0, h.1, (h.2, quiet tt))
 completed Debug told lines old new n h quiet = (h.0, h.1, (h.2, quiet tt))
+completed Serve told lines old new n h quiet = let b = some_bytes told in (b.0, b.1, (h, quiet tt))
 completed (Threads limit) told lines old new n h quiet = absurd h
 completed (Weave seed limit) told lines old new n h quiet = h
 
@@ -41,6 +43,7 @@ completed (Weave seed limit) told lines old new n h quiet = h
 broken : (task : Task) (fault : WorkFault) (told lines left : Option (List ℕ)) (old new : Stream) → IsAlone task → IsStoppedCommand task fault told lines left old new → (bytes : List ℕ) × AreTold told bytes × Breaks task fault bytes lines left old new
 broken (Show view) fault told lines left old new alone h = h
 broken Debug fault told lines left old new alone h = h
+broken Serve fault told lines left old new alone h = let b = some_bytes told in (b.0, b.1, h)
 broken (Threads limit) fault told lines left old new alone h = absurd alone
 broken (Weave seed limit) fault told lines left old new alone h = h
 
@@ -48,6 +51,7 @@ broken (Weave seed limit) fault told lines left old new alone h = h
 pub alone_at : (task : Task) → ((limit : ℕ) → task ≡ Threads limit → ⊥) → IsAlone task
 alone_at (Show view) none = tt
 alone_at Debug none = tt
+alone_at Serve none = tt
 alone_at (Threads limit) none = absurd (none limit refl)
 alone_at (Weave seed limit) none = tt
 
@@ -55,6 +59,7 @@ alone_at (Weave seed limit) none = tt
 pub silent_at : (task : Task) → IsAlone task → ((seed limit : ℕ) → task ≡ Weave seed limit → ⊥) → IsSilent task
 silent_at (Show view) alone none = tt
 silent_at Debug alone none = tt
+silent_at Serve alone none = tt
 silent_at (Threads limit) alone none = absurd alone
 silent_at (Weave seed limit) alone none = absurd (none seed limit refl)
 
@@ -81,6 +86,7 @@ of_recording IsMade starts bytes out lines n (Err fault, is, h) = subst (IsStatu
 of_task : (task : Task) (bytes : List ℕ) (lines : Option (List ℕ)) (old new : World) (n : ℕ) → Completes task bytes lines old new n → IsStatus bytes n
 of_task (Show view) bytes lines old new n h = at_end (E.of_view view bytes h.0.0 n h.0.1)
 of_task Debug bytes lines old new n h = at_end (E.of_session bytes lines h.0.0 old.out new.out n h.0.1 h.0.2)
+of_task Serve bytes lines old new n h = subst (IsStatus bytes) (sym h.0.0) (at_end E.well)
 of_task (Threads limit) bytes lines old new n h = of_recording (IsByThreads limit) (λ s r is. (is.is_report.legal.start, is.is_report.legal.is_start)) bytes h.1.0 h.0 n h.1.1
 of_task (Weave seed limit) bytes lines old new n h = of_recording (IsBySeed seed limit) (λ s r is. (is.is_woven.after.start, is.is_woven.after.is_start)) bytes h.1.0 h.0 n h.1.1
 
@@ -104,18 +110,18 @@ loses_none a b same = ([], nat_0, subst (λ (o : Option (List ℕ)). ConsumesIfK
     nat_0 = omega arith
 
 module _ (order : Order) (n : ℕ) (old new : World)
-    (most : (order.task ≢ Debug) ⊎ (order.file ≡ codes "-") → ConsumesUpTo 8388609 old.input.bytes new.input.bytes)
-    (untouched : (order.task ≢ Debug) ⊎ ((n ≡ 1) ⊎ (n ≡ 3)) → order.file ≢ codes "-" → new.input ≡ old.input) where
-  left_alone : (order.task ≢ Debug) ⊎ ((n ≡ 1) ⊎ (n ≡ 3)) → ConsumesUpTo 8388609 old.input.bytes new.input.bytes
+    (most : ReadsTextAlone order.task ⊎ (order.file ≡ codes "-") → ConsumesUpTo 8388609 old.input.bytes new.input.bytes)
+    (untouched : ReadsTextAlone order.task ⊎ ((n ≡ 1) ⊎ (n ≡ 3)) → order.file ≢ codes "-" → new.input ≡ old.input) where
+  left_alone : ReadsTextAlone order.task ⊎ ((n ≡ 1) ⊎ (n ≡ 3)) → ConsumesUpTo 8388609 old.input.bytes new.input.bytes
   left_alone by = elim (is_dash order.file) [ inl file ↦ most (inr file) | inr file ↦ loses_none old.input.bytes new.input.bytes (ap (λ (s : Stream). s.bytes) (untouched by file)) ]
 
-  loses : (order.task ≢ Debug) ⊎ ((n ≡ 1) ⊎ ((n ≡ 3) ⊎ (order.file ≡ codes "-"))) → ConsumesUpTo 8388609 old.input.bytes new.input.bytes
+  loses : ReadsTextAlone order.task ⊎ ((n ≡ 1) ⊎ ((n ≡ 3) ⊎ (order.file ≡ codes "-"))) → ConsumesUpTo 8388609 old.input.bytes new.input.bytes
   loses (inl other) = most (inl other)
   loses (inr (inl one)) = left_alone (inr (inl one))
   loses (inr (inr (inl three))) = left_alone (inr (inr three))
   loses (inr (inr (inr file))) = most (inr file)
 
-  elsewhere : (order.task ≢ Debug) ⊎ ((n ≡ 1) ⊎ ((n ≡ 3) ⊎ (order.file ≡ codes "-"))) → order.file ≢ codes "-" → new.input ≡ old.input
+  elsewhere : ReadsTextAlone order.task ⊎ ((n ≡ 1) ⊎ ((n ≡ 3) ⊎ (order.file ≡ codes "-"))) → order.file ≢ codes "-" → new.input ≡ old.input
   elsewhere (inl other) = untouched (inl other)
   elsewhere (inr (inl one)) = untouched (inr (inl one))
   elsewhere (inr (inr (inl three))) = untouched (inr (inr three))
@@ -148,6 +154,7 @@ module _ (Does : Task → Type 0) (files : Files) (words : List (List ℕ)) (old
   halted Read n e s c = subst (Promise Does files words old new) (sym e) (read_failed s c.0 c.1)
   halted Write n e s c = subst (Promise Does files words old new) (sym e) (write_failed s c.1 c.0)
   halted TooManyLines n e s c = subst (Promise Does files words old new) (sym e) (too_many_lines s (record { input = c.0; out = c.1 }))
+  halted CutShort n e s c = subst (Promise Does files words old new) (sym e) (cut_short s (record { input = c.0; out = c.1 }))
   halted (NoThread refused) n e s c = subst (Promise Does files words old new) (sym e) (no_thread refused s (record { input = c.0; out = c.1 }))
   halted Memory n e s c = subst (Promise Does files words old new) (sym e) (no_memory s (record { input = c.0; out = c.1 }))
 
@@ -204,6 +211,7 @@ module _ (files : Files) (words : List (List ℕ)) (old new : World) where
   more_tasks (write_failed s failed same) = write_failed (stopped_more s) failed same
   more_tasks (help_write_failed text none by part input says) = help_write_failed text none by part input says
   more_tasks (too_many_lines s same) = too_many_lines (stopped_more s) same
+  more_tasks (cut_short s same) = cut_short (stopped_more s) same
   more_tasks (no_thread refused s same) = no_thread refused (stopped_more s) same
   more_tasks (no_memory s same) = no_memory (stopped_more s) same
   more_tasks (no_memory_for_words input out says) = no_memory_for_words input out says

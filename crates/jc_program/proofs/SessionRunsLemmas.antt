@@ -14,7 +14,7 @@ use Rattle.jc_io.specs.Written.{Stream, sink}
 use Rattle.jc_debug.specs.DebuggerState.{Session}
 use Rattle.jc_program.specs.SessionRuns.{lines_by, ShowsTo, TalksOn, StopsOn, HasTalked, HasStopped}
 use Rattle.jc_program.specs.declared.fault.WorkFault.{WorkFault}
-use Rattle.jc_program.specs.declared.fault.WorkFault.TheVariants.{Read, Write, TooManyLines, NoThread, Memory}
+use Rattle.jc_program.specs.declared.fault.WorkFault.TheVariants.{Read, Write, TooManyLines, CutShort, NoThread, Memory}
 use Rattle.jc_program.proofs.ReadsScenarioLemmas.{reads_whole}
 
 -- ---- the lines, where they are known
@@ -76,6 +76,7 @@ stops_whole Write n b v lines left old new is e (inl h) = inl (h.0, refused_whol
 stops_whole Write n b v lines left old new is e (inr (inl h)) = inr (inl (h.0, given_whole n b v old new is e h.1))
 stops_whole Write n b v lines left old new is e (inr (inr h)) = inr (inr (scenario_whole (λ O A. OfLinesLeft lines left (λ l rest. WentFront O A l rest old new)) n b v is e h))
 stops_whole TooManyLines n b v lines left old new is e h = past_whole n b v lines left old new is e h
+stops_whole CutShort n b v lines left old new is e h = absurd h
 stops_whole (NoThread spawn) n b v lines left old new is e h = absurd h
 stops_whole Memory n b v lines left old new is e (inl h) = inl h
 stops_whole Memory n b v lines left old new is e (inr h) = inr (scenario_whole (λ O A. OfLinesLeft lines left (λ l rest. WentWhole O A l rest old new)) n b v is e h)

@@ -18,13 +18,11 @@ use Rattle.jc_network.proofs.AfterLemmas.{after_more, after_one_more}
 use Rattle.jc_cli.specs.declared.order.View.{View}
 use Rattle.jc_cli.specs.declared.order.View.TheVariants.{Check, Print, Run, Document, Journal}
 use Rattle.jc_program.specs.Laws.{RunHasAText}
-use Rattle.jc_program.specs.Journals.{Asked, JournalBy, JournalOf, Journaled, given_stuck, ran, stuck_part}
-use Rattle.jc_program.specs.JournalResult.{JournalBegins, IsJournalDue}
+use Rattle.jc_program.specs.Journals.{Asked, JournalBy, JournalOf, Journaled, given_stuck, ran, stuck_part, JournalStops, IsJournalUnfinished}
 use Rattle.jc_program.specs.declared.run.ReplicaLines.{ReplicaLines}
 use Rattle.jc_program.specs.declared.run.ReplicaLines.TheVariants.{Dumps, Documents}
 use Rattle.jc_program.specs.ReplicaLines.{lines_text}
-use Rattle.jc_program.specs.PlayResult.{IsRunDue}
-use Rattle.jc_program.specs.ViewOutput.{Begins, blocks, first_lines, all_lines, IsRunUnfinished}
+use Rattle.jc_program.specs.ViewOutput.{Begins, blocks, first_lines, all_lines, IsRunUnfinished, IsUnfinishedOf}
 use Rattle.jc_program.specs.ViewText.{IsGivenShown, ShowsRun, Shows, IsRefused}
 use Rattle.jc_program.specs.Runs.{Made, GoesBy, EndsAt, Stuck, events_of, events_text, stuck_line, status_of}
 use Rattle.jc_program.specs.Texts.{event_text, counts_text}
@@ -156,36 +154,29 @@ module _ (step_or_stuck : StepOrStuck) (led_or_stuck : LedOrStuck) where
       (text, status_of p.stuck, ran start p.last p.stuck first text given (record { made = p.made; lines = rest.0; goes = rest.1; ends = p.ends; written = refl }) (ap (λ t. t ++ text) (sym (append-nil lines))))
 
   -- of which some first events were told
-  given_begun : (asked : Asked) (s : Scenario) (text : List ℕ) → JournalBegins asked true s.names (before_given s) s.given text → (more : List ℕ) × (status : ℕ) × Journaled asked s (text ++ more) status
+  given_begun : (asked : Asked) (s : Scenario) (text : List ℕ) → JournalStops asked true s.names (before_given s) s.given text → (more : List ℕ) × (status : ℕ) × Journaled asked s (text ++ more) status
   given_begun asked s text h =
       let led = after_made (before_given s) h.made h.last (lines_go asked true s.names 1 (before_given s) h.made h.last text h.goes) in
-      let p = played s (events_of h.made) h.last led h.more in
+      let p = played s (events_of h.made) h.last led (h.next ∷ h.more) in
       let rest = lines_of s.scripts asked true s.names (1 + length h.made) h.last p.made p.last (events_of h.made, after_states (before_given s) (events_of h.made) h.last led) p.goes in
-      let whole = journal_after asked s p.last (h.made ++ p.made) p.stuck (text ++ rest.0) (lines_both asked true s.names 1 (before_given s) h.made h.last p.made p.last text rest.0 h.goes rest.1) (ends_behind h.made s.given h.more p.made p.last p.stuck h.are_first p.ends) in
+      let whole = journal_after asked s p.last (h.made ++ p.made) p.stuck (text ++ rest.0) (lines_both asked true s.names 1 (before_given s) h.made h.last p.made p.last text rest.0 h.goes rest.1) (ends_behind h.made s.given (h.next ∷ h.more) p.made p.last p.stuck h.are_first p.ends) in
       (rest.0 ++ whole.0, whole.1, subst (λ t. Journaled asked s t whole.1) (append_assoc text rest.0 whole.0) whole.2)
 
   -- or some of the schedule
-  schedule_begun : (asked : Asked) (s : Scenario) (start : Network) (first text : List ℕ) → JournalOf asked true s.names (before_given s) s.given start None first → JournalBegins asked false s.names start s.schedule text → (more : List ℕ) × (status : ℕ) × Journaled asked s ((first ++ text) ++ more) status
+  schedule_begun : (asked : Asked) (s : Scenario) (start : Network) (first text : List ℕ) → JournalOf asked true s.names (before_given s) s.given start None first → JournalStops asked false s.names start s.schedule text → (more : List ℕ) × (status : ℕ) × Journaled asked s ((first ++ text) ++ more) status
   schedule_begun asked s start first text given h =
       let led = all_led asked true s.names (before_given s) s.given start first given in
       let here = after_more (before_given s) s.given start (events_of h.made) h.last led (after_made start h.made h.last (lines_go asked false s.names 1 start h.made h.last text h.goes)) in
-      let p = played s (s.given ++ events_of h.made) h.last here h.more in
+      let p = played s (s.given ++ events_of h.made) h.last here (h.next ∷ h.more) in
       let rest = lines_of s.scripts asked false s.names (1 + length h.made) h.last p.made p.last (s.given ++ events_of h.made, after_states (before_given s) (s.given ++ events_of h.made) h.last here) p.goes in
       let line = stuck_part s.names false (length (h.made ++ p.made) + 1) p.last p.stuck in
       let all = (text ++ rest.0) ++ line in (
         rest.0 ++ line,
         status_of p.stuck,
         ran start p.last p.stuck first all given
-            (record { made = h.made ++ p.made; lines = text ++ rest.0; goes = lines_both asked false s.names 1 start h.made h.last p.made p.last text rest.0 h.goes rest.1; ends = ends_behind h.made s.schedule h.more p.made p.last p.stuck h.are_first p.ends; written = refl })
+            (record { made = h.made ++ p.made; lines = text ++ rest.0; goes = lines_both asked false s.names 1 start h.made h.last p.made p.last text rest.0 h.goes rest.1; ends = ends_behind h.made s.schedule (h.next ∷ h.more) p.made p.last p.stuck h.are_first p.ends; written = refl })
             (append_assoc first text (rest.0 ++ line) ∙ ap (λ t. first ++ t) (sym (append_assoc text rest.0 line))),
       )
-
-  pub journal_due : (asked : Asked) (s : Scenario) (text : List ℕ) → IsJournalDue asked s text → (more : List ℕ) × (status : ℕ) × Journaled asked s (text ++ more) status
-  journal_due asked s text (inl (inl begins)) = given_begun asked s text begins
-  journal_due asked s text (inl (inr (start, first, rest, given, begins, is))) =
-      let whole = schedule_begun asked s start first rest given begins in
-      (whole.0, whole.1, subst (λ t. Journaled asked s (t ++ whole.0) whole.1) (sym is) whole.2)
-  journal_due asked s text (inr (status, shows)) = ([], status, subst (λ t. Journaled asked s t status) (sym (append-nil text)) shows)
 
   journal_of : (asked : Asked) (s : Scenario) → (out : List ℕ) × (status : ℕ) × Journaled asked s out status
   journal_of asked s =
@@ -234,16 +225,30 @@ module _ (step_or_stuck : StepOrStuck) (led_or_stuck : LedOrStuck) where
     inl (record { start = start; is_start = led; last = last; stuck = Some stuck; blocks = text; plays = plays; written = refl; ends = refl }),
   )
 
-  pub run_due : (trace : Bool) (lines : ReplicaLines) (events : List Event) (s : Scenario) (text : List ℕ) → IsRunDue trace lines events s text → (more : List ℕ) × (status : ℕ) × ShowsRun trace lines events s (text ++ more) status
-  run_due trace lines events s text (inl (status, shows)) = ([], status, subst (λ t. ShowsRun trace lines events s t status) (sym (append-nil text)) shows)
-  run_due trace lines events s text (inr unfinished) = run_front trace lines events s text unfinished
-
   shown_of : (view : View) (s : Scenario) → (out : List ℕ) × (status : ℕ) × Shows view s out status
   shown_of Check s = (counts_text s, 0, (refl, refl))
   shown_of Print s = (canon s, 0, (refl, refl))
   shown_of (Run trace) s = run_or_given trace Dumps s.schedule s
   shown_of (Document n) s = run_or_given false Documents (take n s.schedule) s
   shown_of (Journal trace effects) s = journal_of (record { rules = trace; effects = effects }) s
+
+  -- what is there of a journal without its last lines is the front of a whole one
+  journal_front : (asked : Asked) (s : Scenario) (text : List ℕ) → IsJournalUnfinished asked s text → (more : List ℕ) × (status : ℕ) × Journaled asked s (text ++ more) status
+  journal_front asked s text (inl none) =
+      let whole = journal_of asked s in
+      (whole.0, whole.1, subst (λ t. Journaled asked s (t ++ whole.0) whole.1) (sym none) whole.2)
+  journal_front asked s text (inr (inl stops)) = given_begun asked s text stops
+  journal_front asked s text (inr (inr (start, first, rest, given, stops, is))) =
+      let whole = schedule_begun asked s start first rest given stops in
+      (whole.0, whole.1, subst (λ t. Journaled asked s (t ++ whole.0) whole.1) (sym is) whole.2)
+
+  -- and so of each view
+  pub view_front : (view : View) (s : Scenario) (text : List ℕ) → IsUnfinishedOf view s text → (more : List ℕ) × (status : ℕ) × Shows view s (text ++ more) status
+  view_front Check s text none = (counts_text s, 0, (ap (λ t. t ++ counts_text s) none, refl))
+  view_front Print s text none = (canon s, 0, (ap (λ t. t ++ canon s) none, refl))
+  view_front (Run trace) s text begun = run_front trace Dumps s.schedule s text begun
+  view_front (Document n) s text begun = run_front false Documents (take n s.schedule) s text begun
+  view_front (Journal trace effects) s text begun = journal_front (record { rules = trace; effects = effects }) s text begun
 
 refused_of : (bytes : List ℕ) (fault : ScenarioFault) → IsFault bytes fault → (out : List ℕ) × (status : ℕ) × IsRefused fault out status
 refused_of bytes fault is =

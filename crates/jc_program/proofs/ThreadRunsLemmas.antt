@@ -12,7 +12,7 @@ use Rattle.jc_program.specs.ViewText.{IsGivenShown}
 use Rattle.jc_program.specs.ViewOutput.{AreTold}
 use Rattle.jc_program.specs.Faults.{IsCause}
 use Rattle.jc_program.specs.declared.fault.WorkFault.{WorkFault}
-use Rattle.jc_program.specs.declared.fault.WorkFault.TheVariants.{Read, Write, TooManyLines, NoThread, Memory}
+use Rattle.jc_program.specs.declared.fault.WorkFault.TheVariants.{Read, Write, TooManyLines, CutShort, NoThread, Memory}
 use Rattle.jc_program.specs.ThreadRuns.{outcome_status, IsTold, AreRecordingTexts, ShowsRecording, AreTextsOfRecording, StopsRecording, HasRecorded, IsStoppedRecording}
 
 -- ---- on a scenario
@@ -62,6 +62,7 @@ module _ (IsMade : Scenario → Recording → Type 0) (s : Scenario) (old new ol
     whole HasThreads Read h = (found.0, found.1, h)
     whole HasThreads Write (out, (lines, status, shows), part) = (found.0, found.1, (out, (lines, status, (Ok s, found.2, shows)), part))
     whole HasThreads TooManyLines h = absurd h
+    whole HasThreads CutShort h = absurd h
     whole HasThreads (NoThread refused) h = (found.0, found.1, h)
     whole HasThreads Memory h = (found.0, found.1, h)
 
@@ -103,6 +104,7 @@ cause_of Read unread input_old input_new out_old out_new same h = absurd (none (
   none (inr e) = e
 cause_of Write unread input_old input_new out_old out_new same h = (same, (h 0).1)
 cause_of TooManyLines unread input_old input_new out_old out_new same h = (same, (h 0).1)
+cause_of CutShort unread input_old input_new out_old out_new same h = (same, (h 0).1)
 cause_of (NoThread refused) unread input_old input_new out_old out_new same h = (same, (h 0).1)
 cause_of Memory unread input_old input_new out_old out_new same h = (same, (h 0).1)
 

@@ -1,14 +1,12 @@
--- What the functions of `journal` write: their contracts cite it.
-use Rattle.std.specs.Prelude.{◌≡◌, ◌⊎◌, ℕ, List, [], ◌++◌, Bool, true, false, Option, Some, None, is_some}
+-- What the functions of `journal` add: their contracts cite it.
+use Rattle.std.specs.Prelude.{◌≡◌, ℕ, List, [], Bool, true, false, Option, Some, None, is_some}
 use Rattle.jc_rules.specs.declared.operation.Event.{Event}
 use Rattle.jc_rules.specs.declared.rule.Rule.{Rule}
 use Rattle.jc_rules.specs.Refused.{Cause, IsStuckIn}
 use Rattle.jc_rules.specs.Step.{Network, StepIn}
 use Rattle.jc_rules.specs.Trace.{Rows}
 use Rattle.jc_effects.specs.Difference.{Differences}
-use Rattle.jc_scenario.specs.WellFormed.{Scenario}
 use Rattle.jc_network.specs.declared.fault.Stuck.{Stuck as StuckEvent}
-use Rattle.jc_network.specs.Given.{before_given}
 use Rattle.jc_network.specs.NetworkHistory.{NetworkHistory, StepsTo}
 use Rattle.jc_network.specs.Steps.{stuck_for}
 use Rattle.jc_journal.specs.declared.before.Before.{Before}
@@ -16,9 +14,9 @@ use Rattle.jc_journal.specs.declared.event.NumberedEvent.{NumberedEvent}
 use Rattle.jc_journal.specs.Before.{IsNoted}
 use Rattle.jc_journal.specs.EventLine.{AreEffects, event_line}
 use Rattle.jc_journal.specs.StuckLine.{stuck_event_line}
-use Rattle.jc_io.specs.Written.{Stream, Wrote}
-use Rattle.jc_program.specs.Journals.{Asked, IsEventLine, JournalBy, JournalOf, Journaled}
-use Rattle.jc_program.specs.Runs.{Made, Stuck, events_of}
+use Rattle.jc_out.specs.Out.{OutState, AddsText}
+use Rattle.jc_program.specs.Journals.{Asked, IsEventLine, JournalOf}
+use Rattle.jc_program.specs.Runs.{Stuck}
 
 -- ---- the network behind
 
@@ -61,64 +59,25 @@ OfStuckLine net e s Holds =
 
 -- ---- one event
 
--- The event was made; or it is stuck, and nothing changed. Its line was written.
-abbrev pub JournalsNext : Asked → NetworkHistory → NetworkHistory → NumberedEvent → Stream → Stream → Bool → Type 0
+-- The event was made; or it is stuck, and nothing changed. Its line was added.
+abbrev pub JournalsNext : Asked → NetworkHistory → NetworkHistory → NumberedEvent → OutState → OutState → Bool → Type 0
 JournalsNext asked old new e a b false =
     (rows : Rows) × (to : StepsTo old e.event new rows) × (line : List ℕ)
     × IsEventLine asked e.given old.names e.number e.event rows.rows to.step.step.before to.step.step.after line
-    × Wrote line a b
+    × AddsText line a b
 JournalsNext asked old new e a b true =
     (new ≡ old) × (why : Cause) × IsStuckIn old.history.now e.event why
-    × Wrote (stuck_event_line old.names e.given e.number old.history.now.states why e.event) a b
-
--- the line of the next event, which is made or stuck
-abbrev pub IsNextLine : Asked → List (List ℕ) → Network → NumberedEvent → List ℕ → Type 0
-IsNextLine asked names network e text =
-    ((rows : List (Rule × ℕ)) × (new : Network) × (step : StepIn network e.event new rows)
-    × IsEventLine asked e.given names e.number e.event rows step.step.before step.step.after text)
-    ⊎ ((why : Cause) × IsStuckIn network e.event why
-    × (text ≡ stuck_event_line names e.given e.number network.states why e.event))
+    × AddsText (stuck_event_line old.names e.given e.number old.history.now.states why e.event) a b
 
 -- ---- all events
 
--- The events were made to the end or the first stuck one, and the text of their journal was written.
+-- The events were made to the end or the first stuck one, and the text of their journal was added.
 pub record JournalsAll
     (asked : Asked) (given : Bool) (old new : NetworkHistory) (events : List Event)
-    (a b : Stream) (answer : Bool) : Type 0 where
+    (a b : OutState) (answer : Bool) : Type 0 where
   pub stuck : Option Stuck
   pub text : List ℕ
   pub journal : JournalOf asked given old.names old.history.now events new.history.now stuck text
   pub tells : is_some stuck ≡ answer
   pub names : new.names ≡ old.names
-  pub written : Wrote text a b
-
--- ---- the lines of some first events
-
--- The first events lead from the network to another, and the text has their lines.
-pub record JournalBegins
-    (asked : Asked) (given : Bool) (names : List (List ℕ)) (network : Network) (events : List Event) (text : List ℕ)
-    : Type 0 where
-  pub made : List Made
-  pub more : List Event
-  pub last : Network
-  pub goes : JournalBy asked given names 1 network made last text
-  pub are_first : events ≡ events_of made ++ more
-
--- the lines of the first events, or those of all up to a stuck one and the line of that one
-abbrev pub AreLinesDue : Asked → Bool → List (List ℕ) → Network → List Event → List ℕ → Type 0
-AreLinesDue asked given names network events text =
-    JournalBegins asked given names network events text
-    ⊎ ((last : Network) × (stuck : Stuck) × JournalOf asked given names network events last (Some stuck) text)
-
--- the lines of some first given events of a scenario, or those of all and of some first events of its schedule
-abbrev pub AreFirstLines : Asked → Scenario → List ℕ → Type 0
-AreFirstLines asked s text =
-    JournalBegins asked true s.names (before_given s) s.given text
-    ⊎ ((start : Network) × (first rest : List ℕ)
-    × JournalOf asked true s.names (before_given s) s.given start None first
-    × JournalBegins asked false s.names start s.schedule rest
-    × (text ≡ first ++ rest))
-
--- the lines of some first events, or the text of a whole journal
-abbrev pub IsJournalDue : Asked → Scenario → List ℕ → Type 0
-IsJournalDue asked s text = AreFirstLines asked s text ⊎ ((status : ℕ) × Journaled asked s text status)
+  pub added : AddsText text a b

@@ -13,6 +13,7 @@ pub mod PlayResult
 pub mod JournalResult
 pub mod Faults
 pub mod SessionRuns
+pub mod Served
 pub mod Commands
 pub mod ThreadRuns
 pub mod WeaveRuns

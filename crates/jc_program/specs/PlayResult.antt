@@ -1,18 +1,14 @@
 -- What `play` and what it calls return and write: the contracts in `run` cite it.
-use Rattle.std.specs.Prelude.{◌≡◌, ◌⊎◌, ℕ, List, Bool, Option, Some, None, length}
+use Rattle.std.specs.Prelude.{◌≡◌, ℕ, List, Bool, Option, Some, None, length}
 use Rattle.jc_rules.specs.declared.operation.Event.{Event}
 use Rattle.jc_rules.specs.Trace.{Rows}
 use Rattle.jc_printer.specs.Canon.{AreNamed}
-use Rattle.jc_scenario.specs.WellFormed.{Scenario}
 use Rattle.jc_network.specs.declared.fault.Stuck.{Stuck as StuckEvent}
 use Rattle.jc_network.specs.NetworkHistory.{NetworkHistory, StepsTo}
 use Rattle.jc_network.specs.Steps.{IsStuckFor, stuck_for}
 use Rattle.jc_out.specs.Out.{OutState, AddsText}
 use Rattle.jc_program.specs.Texts.{event_text}
 use Rattle.jc_program.specs.Runs.{Stuck, Plays}
-use Rattle.jc_program.specs.declared.run.ReplicaLines.{ReplicaLines}
-use Rattle.jc_program.specs.ViewText.{ShowsRun}
-use Rattle.jc_program.specs.ViewOutput.{IsRunUnfinished}
 
 -- a text of this kind was added
 abbrev pub Added : (List ℕ → Type 0) → OutState → OutState → Type 0
@@ -41,8 +37,3 @@ pub record PlaysAll
   pub tells : Tells old.names answer stuck
   pub names : new.names ≡ old.names
   pub added : AddsText text a b
-
--- the text of a run, whole or without its last texts
-abbrev pub IsRunDue : Bool → ReplicaLines → List Event → Scenario → List ℕ → Type 0
-IsRunDue trace lines events s text =
-    ((status : ℕ) × ShowsRun trace lines events s text status) ⊎ IsRunUnfinished trace lines events s text

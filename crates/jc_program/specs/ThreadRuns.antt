@@ -13,7 +13,7 @@ use Rattle.jc_program.specs.ViewOutput.{AreTold}
 use Rattle.jc_program.specs.WorkFaults.{fault_status, fault_line}
 use Rattle.jc_program.specs.Faults.{IsCause}
 use Rattle.jc_program.specs.declared.fault.WorkFault.{WorkFault}
-use Rattle.jc_program.specs.declared.fault.WorkFault.TheVariants.{Read, Write, TooManyLines, NoThread, Memory}
+use Rattle.jc_program.specs.declared.fault.WorkFault.TheVariants.{Read, Write, TooManyLines, CutShort, NoThread, Memory}
 use Rattle.jc_program.specs.declared.recording.RecordFault.{RecordFault}
 use Rattle.jc_program.specs.declared.recording.RecordFault.TheVariants as F
 
@@ -74,11 +74,13 @@ abbrev pub IsTextOf : (List ℕ → List ℕ → ℕ → Type 0) → List ℕ �
 IsTextOf IsRun out = (lines : List ℕ) × (status : ℕ) × IsRun out lines status
 
 -- A fault stopped a run. After a failed write a prefix of its text was written, but not the whole; else nothing was.
--- Want of a thread stops it only where threads may have been started. Too many lines never stop it.
+-- Want of a thread stops it only where threads may have been started. Too many lines never stop it, nor an input that
+-- ends within a text.
 abbrev pub StopsRecording : Type 0 → (List ℕ → List ℕ → ℕ → Type 0) → WorkFault → Stream → Stream → Type 0
 StopsRecording HasThreads IsRun Read old new = new ≡ old
 StopsRecording HasThreads IsRun Write old new = WrittenInPart (IsTextOf IsRun) old new
 StopsRecording HasThreads IsRun TooManyLines old new = ⊥
+StopsRecording HasThreads IsRun CutShort old new = ⊥
 StopsRecording HasThreads IsRun (NoThread refused) old new = (new ≡ old) × HasThreads
 StopsRecording HasThreads IsRun Memory old new = new ≡ old
 

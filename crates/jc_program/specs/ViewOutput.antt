@@ -6,7 +6,7 @@ use Rattle.jc_rules.specs.Step.{Network}
 use Rattle.jc_scenario.specs.WellFormed.{Scenario, IsScenario}
 use Rattle.jc_io.specs.Written.{Stream, Written, WrittenInPart}
 use Rattle.jc_program.specs.declared.fault.WorkFault.{WorkFault}
-use Rattle.jc_program.specs.declared.fault.WorkFault.TheVariants.{Read, Write, TooManyLines, NoThread, Memory}
+use Rattle.jc_program.specs.declared.fault.WorkFault.TheVariants.{Read, Write, TooManyLines, CutShort, NoThread, Memory}
 use Rattle.jc_program.specs.Journals.{IsJournalUnfinished}
 use Rattle.jc_program.specs.declared.run.ReplicaLines.{ReplicaLines}
 use Rattle.jc_program.specs.declared.run.ReplicaLines.TheVariants.{Dumps, Documents}
@@ -85,6 +85,7 @@ abbrev pub StopsView : View → List ℕ → WorkFault → Stream → Stream →
 StopsView view bytes Read old new = new ≡ old
 StopsView view bytes Write old new = WrittenInPart (IsTextOfView view bytes) old new
 StopsView view bytes TooManyLines old new = ⊥
+StopsView view bytes CutShort old new = ⊥
 StopsView view bytes (NoThread refused) old new = ⊥
 StopsView view bytes Memory old new = Written (IsUnfinished view bytes) old new
 

@@ -10,12 +10,13 @@ use Rattle.jc_cli.specs.declared.fault.WordsFault.TheVariants as words
 use Rattle.jc_program.specs.declared.run.RunFault.{RunFault}
 use Rattle.jc_program.specs.declared.run.RunFault.TheVariants as running
 use Rattle.jc_program.specs.declared.fault.WorkFault.{WorkFault}
-use Rattle.jc_program.specs.declared.fault.WorkFault.TheVariants.{Read, Write, TooManyLines, NoThread, Memory}
+use Rattle.jc_program.specs.declared.fault.WorkFault.TheVariants.{Read, Write, TooManyLines, CutShort, NoThread, Memory}
 
 abbrev pub fault_status : WorkFault → ℕ
 fault_status Read = 4
 fault_status Write = 4
 fault_status TooManyLines = 4
+fault_status CutShort = 4
 fault_status (NoThread refused) = 5
 fault_status Memory = 5
 
@@ -24,6 +25,7 @@ abbrev pub fault_line : WorkFault → List ℕ
 fault_line Read = codes "read failed\n"
 fault_line Write = codes "write failed\n"
 fault_line TooManyLines = codes "too many lines\n"
+fault_line CutShort = codes "the input ended within a text\n"
 fault_line (NoThread refused) = codes "no thread\n"
 fault_line Memory = codes "no memory\n"
 

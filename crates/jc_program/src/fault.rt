@@ -16,8 +16,10 @@ pub enum WorkFault {
     Read,
     /// A write failed.
     Write,
-    /// A session had more lines or bytes than it may have.
+    /// A session had more lines or bytes than it may have, or `serve` more requests or bytes.
     TooManyLines,
+    /// The input of `serve` ended within a text.
+    CutShort,
     /// A thread could not be made: the start of one was refused.
     NoThread(SpawnRefused),
     /// There was no memory.
@@ -58,6 +60,7 @@ impl WorkFault {
             WorkFault::Read => "read failed\n",
             WorkFault::Write => "write failed\n",
             WorkFault::TooManyLines => "too many lines\n",
+            WorkFault::CutShort => "the input ended within a text\n",
             WorkFault::NoThread(_) => "no thread\n",
             WorkFault::Memory => "no memory\n",
         }
@@ -70,6 +73,7 @@ impl WorkFault {
             WorkFault::Read => 4,
             WorkFault::Write => 4,
             WorkFault::TooManyLines => 4,
+            WorkFault::CutShort => 4,
             WorkFault::NoThread(_) => 5,
             WorkFault::Memory => 5,
         }

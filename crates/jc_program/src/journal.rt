@@ -1,7 +1,7 @@
-//! Executes the events of a scenario, the given ones first, and writes the line of each before the next. `journal` and
-//! its faults are made of these.
+//! Executes the events of a scenario, the given ones first, and writes the line of each before the next. `journal` is
+//! made of these.
 
-ghost use Rattle.std.specs.Prelude.{◌≡◌, ◌<◌, ◌≤◌, [], ℕ, List, length, is_some, IfSome, IfOk, OnOk, IfErr, IsErrOf, All};
+ghost use Rattle.std.specs.Prelude.{◌≡◌, ◌<◌, ◌≤◌, [], ℕ, List, length, is_some, IfSome, IfOk, OnOk, OnErr, All};
 ghost use Rattle.jc_rules.specs.declared.limits.TheConstants.{MAX_EVENTS};
 ghost use Rattle.jc_rules.specs.declared.rule.Rule.{Rule as AnyRule};
 ghost use Rattle.jc_rules.specs.Step.{StepIn};
@@ -13,15 +13,17 @@ ghost use Rattle.jc_network.specs.Given.{before_given};
 ghost use Rattle.jc_journal.specs.Before.{IsNoted};
 ghost use Rattle.jc_journal.specs.Parts.{rows_of};
 ghost use Rattle.jc_cli.specs.declared.order.View.TheVariants as V;
-ghost use Rattle.jc_io.specs.Written.{sink, Wrote, WrotePart, Written, WrittenInPart};
-ghost use Rattle.jc_program.specs.JournalResult.{asked_by, IsBehind, CatchesUp, IsLineOf, OfStuckLine, JournalsNext, IsNextLine, JournalsAll, AreLinesDue, IsJournalDue};
+ghost use Rattle.jc_out.specs.Out.{output, AddsText};
+ghost use Rattle.jc_program.specs.JournalResult.{asked_by, IsBehind, CatchesUp, IsLineOf, OfStuckLine, JournalsNext, JournalsAll};
 ghost use Rattle.jc_program.specs.Journals.{rows_asked, JournalStops, IsJournalUnfinished};
+ghost use Rattle.jc_program.specs.PlayResult.{Added};
 ghost use Rattle.jc_program.specs.ViewText.{Shows};
 
-use crate::run::{RunFault, send_bytes};
+use crate::run::Halted;
 use jc_io::Sink;
 use jc_journal::{Before, NumberedEvent, event_effects, event_line, stuck_line};
 use jc_network::{Net, StepFault, Stuck};
+use jc_out::Out;
 use jc_rules::{Event, Rule, Trace};
 use jc_scenario::{Scenario, copy_names, copy_scripts};
 use std::alloc::{AllocError, Global};
@@ -65,59 +67,54 @@ fn made_line(
 }
 
 /// Executes the event in the network behind, if there is one. Nothing is kept to go back with.
-fn catch_up(behind: &mut Option<Net>, event: &Event) -> Result<(), RunFault>
+fn catch_up(behind: &mut Option<Net>, event: &Event) -> Result<(), Halted>
     requires { IfSome behind.old (λ c. c.history.earlier ≡ []) }
-    ensures ok { OnOk result (CatchesUp event.now behind.old behind.new) }
-    ensures err { IfErr result (λ fault. fault ≡ RunFault.Memory) }
+    ensures { OnOk result (CatchesUp event.now behind.old behind.new) }
 {
     if let Some(net) = behind {
         if net.step(event).is_err() {
-            return Err(RunFault::Memory);
+            return Err(Halted);
         }
         net.begin();
     }
     Ok(())
 }
 
-/// Writes the line of an event that is stuck in the network. Without memory nothing is written.
-fn send_stuck<K: Sink>(
+/// Adds the line of an event that is stuck in the network. Without memory nothing is added.
+fn add_stuck<K: Sink>(
     alloc: Global,
     net: &Net,
     numbered: &NumberedEvent,
     stuck: &Stuck,
-    out: &mut K,
-) -> Result<(), RunFault>
+    out: &mut Out<'_, K>,
+) -> Result<(), Halted>
     requires { IsNamedStuck net.now.names stuck.now }
     ensures ok { OnOk result (OfStuckLine net.now numbered.now stuck.now
-        (λ line. Wrote line (sink K.Sink out.old) (sink K.Sink out.new))) }
-    ensures memory { IsErrOf result RunFault.Memory → out.new ≡ out.old }
-    ensures write { IsErrOf result RunFault.Write → OfStuckLine net.now numbered.now stuck.now
-        (λ line. WrotePart line (sink K.Sink out.old) (sink K.Sink out.new)) }
+        (λ line. AddsText line (output K.Sink out.old) (output K.Sink out.new))) }
+    ensures halted { OnErr result (out.new ≡ out.old) }
 {
     let line = stuck_line(alloc, net, numbered.number, numbered.given, stuck)?;
-    send_bytes(out, line.as_slice())
+    out.pass(line.as_slice());
+    Ok(())
 }
 
-/// Executes the event and writes its line, also where it is stuck. Returns whether it is; then nothing is changed.
-/// Without memory nothing is written.
+/// Executes the event and adds its line, also where it is stuck. Returns whether it is; then nothing is changed.
+/// Without memory nothing is added.
 fn journal_next<K: Sink>(
     alloc: Global,
     networks: &mut Networks,
     numbered: &NumberedEvent,
     trace: bool,
-    out: &mut K,
-) -> Result<bool, RunFault>
+    out: &mut Out<'_, K>,
+) -> Result<bool, Halted>
     requires room { length networks.old.net.history.earlier < MAX_EVENTS }
     requires named { AreNamed numbered.now.event (length networks.old.net.names) }
     requires behind { IsBehind networks.old.behind networks.old.net.history.now }
     ensures ok { IfOk result (JournalsNext (asked_by trace networks.old.behind) networks.old.net networks.new.net
-        numbered.now (sink K.Sink out.old) (sink K.Sink out.new)) }
+        numbered.now (output K.Sink out.old) (output K.Sink out.new)) }
     ensures behind { OnOk result (IsBehind networks.new.behind networks.new.net.history.now) }
     ensures asked { OnOk result (is_some networks.new.behind ≡ is_some networks.old.behind) }
-    ensures memory { IsErrOf result RunFault.Memory → out.new ≡ out.old }
-    ensures write { IsErrOf result RunFault.Write
-        → WrittenInPart (IsNextLine (asked_by trace networks.old.behind) networks.old.net.names
-        networks.old.net.history.now numbered.now) (sink K.Sink out.old) (sink K.Sink out.new) }
+    ensures halted { OnErr result (out.new ≡ out.old) }
 {
     let before = Before::of(alloc, &networks.net, &numbered.event)?;
     match networks.net.step(&numbered.event) {
@@ -125,18 +122,18 @@ fn journal_next<K: Sink>(
             let asked = rows_asked(&rules, trace);
             let line = made_line(alloc, networks, numbered, &before, asked)?;
             catch_up(&mut networks.behind, &numbered.event)?;
-            send_bytes(out, line.as_slice())?;
+            out.pass(line.as_slice());
             Ok(false)
         }
         Err(StepFault::Stuck(stuck)) => {
-            send_stuck(alloc, &networks.net, numbered, &stuck, out)?;
+            add_stuck(alloc, &networks.net, numbered, &stuck, out)?;
             Ok(true)
         }
-        Err(_) => Err(RunFault::Memory),
+        Err(_) => Err(Halted),
     }
 }
 
-/// Executes the events up to the end or the first stuck one, and writes the line of each, of the stuck one too. Returns
+/// Executes the events up to the end or the first stuck one, and adds the line of each, of the stuck one too. Returns
 /// whether there is one.
 fn journal_events<K: Sink>(
     alloc: Global,
@@ -144,25 +141,25 @@ fn journal_events<K: Sink>(
     events: &[Event],
     given: bool,
     trace: bool,
-    out: &mut K,
-) -> Result<bool, RunFault>
+    out: &mut Out<'_, K>,
+) -> Result<bool, Halted>
     requires new { networks.old.net.history.earlier ≡ [] }
     requires short { length events.now ≤ MAX_EVENTS }
     requires named { All (λ e. AreNamed e (length networks.old.net.names)) events.now }
     requires behind { IsBehind networks.old.behind networks.old.net.history.now }
     ensures ok { IfOk result (JournalsAll (asked_by trace networks.old.behind) given networks.old.net networks.new.net
-        events.now (sink K.Sink out.old) (sink K.Sink out.new)) }
+        events.now (output K.Sink out.old) (output K.Sink out.new)) }
     ensures behind { OnOk result (IsBehind networks.new.behind networks.new.net.history.now) }
     ensures asked { OnOk result (is_some networks.new.behind ≡ is_some networks.old.behind) }
-    ensures memory { IsErrOf result RunFault.Memory
-        → Written (JournalStops (asked_by trace networks.old.behind) given networks.old.net.names
-        networks.old.net.history.now events.now) (sink K.Sink out.old) (sink K.Sink out.new) }
-    ensures write { IsErrOf result RunFault.Write
-        → WrittenInPart (AreLinesDue (asked_by trace networks.old.behind) given networks.old.net.names
-        networks.old.net.history.now events.now) (sink K.Sink out.old) (sink K.Sink out.new) }
+    ensures halted { OnErr result (Added (JournalStops (asked_by trace networks.old.behind) given
+        networks.old.net.names networks.old.net.history.now events.now)
+        (output K.Sink out.old) (output K.Sink out.new)) }
 {
     let mut number = 0u64;
     for event in events {
+        if out.is_broken() {
+            return Err(Halted);
+        }
         number += 1;
         let numbered = NumberedEvent {
             event: *event,
@@ -198,24 +195,21 @@ fn network_behind(
     Ok(Some(net))
 }
 
-/// Executes a scenario: writes the text of `journal`, and returns its status.
-pub fn journal_through<K: Sink>(
+/// Executes a scenario: adds the text of `journal`, and returns its status.
+pub fn add_journal<K: Sink>(
     alloc: Global,
     scenario: Scenario,
     trace: bool,
     effects: bool,
-    out: &mut K,
-) -> Result<u8, RunFault>
+    out: &mut Out<'_, K>,
+) -> Result<u8, Halted>
     requires { IsWellFormedScenario (scenario_view scenario) }
-    ensures ok { IfOk result (λ status. Written
+    ensures ok { IfOk result (λ status. Added
         (λ text. Shows (V.Journal trace effects) (scenario_view scenario) text status)
-        (sink K.Sink out.old) (sink K.Sink out.new)) }
-    ensures memory { IsErrOf result RunFault.Memory
-        → Written (IsJournalUnfinished (record { rules = trace; effects = effects }) (scenario_view scenario))
-        (sink K.Sink out.old) (sink K.Sink out.new) }
-    ensures write { IsErrOf result RunFault.Write
-        → WrittenInPart (IsJournalDue (record { rules = trace; effects = effects }) (scenario_view scenario))
-        (sink K.Sink out.old) (sink K.Sink out.new) }
+        (output K.Sink out.old) (output K.Sink out.new)) }
+    ensures halted { OnErr result (Added
+        (IsJournalUnfinished (record { rules = trace; effects = effects }) (scenario_view scenario))
+        (output K.Sink out.old) (output K.Sink out.new)) }
 {
     let behind = network_behind(alloc, &scenario, effects)?;
     let Scenario {

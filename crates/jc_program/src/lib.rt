@@ -13,6 +13,7 @@ mod reading;
 mod recording;
 mod run;
 mod sending;
+mod serving;
 mod sessions;
 mod telling;
 mod texts;

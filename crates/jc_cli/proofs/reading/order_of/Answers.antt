@@ -3,7 +3,7 @@ use Rattle.clap.specs.Words.{HasKind, Text, fault_of, subcommand_of, subcommand_
 use Rattle.jc_cli.specs.Program.{program}
 use Rattle.jc_cli.specs.Arguments.{with_help_meant}
 use Rattle.jc_cli.proofs.ProgramCommandsLemmas.{none_said, some_said, unasked, unsaid, faulty, faultless_asks_nothing, ordered, unordered}
-use Rattle.jc_cli.proofs.LimitsLemmas.{order_in_range}
+use Rattle.jc_cli.proofs.LimitsLemmas.{order_in_range, serve_has_no_file}
 use Rattle.jc_cli.proofs.reading.order_of.Goals as goal
 
 pub returns-then-is_empty-clause-ok : goal.returns-then-is_empty-clause-ok
@@ -50,3 +50,6 @@ returns-clause-help c = λ asks.
 
 pub returns-clause-limit : goal.returns-clause-limit
 returns-clause-limit c = order_in_range (subcommand_rows_of c.in-Ok.matches) c.in-Some.order (sym (sym c.in-Some.is ∙ c.in_ok-order.ensures))
+
+pub returns-clause-served : goal.returns-clause-served
+returns-clause-served c = serve_has_no_file (subcommand_rows_of c.in-Ok.matches) c.in-Some.order (sym (sym c.in-Some.is ∙ c.in_ok-order.ensures))

@@ -1,5 +1,5 @@
 use Rattle.std.proofs.Common.{rules, ◌≡◌, ℕ, List, map, string_bytes, ap, sym, ◌∙◌}
-use Rattle.serde_json.specs.Data.{Members, no_members, put}
+use Rattle.serde_json.specs.Data.{put}
 use Rattle.jc_cursor.specs.declared.bound.Bound.{Bound}
 use Rattle.jc_cursor.specs.Bounds.{bound_of, vars_of}
 use Rattle.jc_json.specs.Json.{put_all}

@@ -27,9 +27,9 @@ loop-text-preserved g c =
     let is : drop i items ≡ entry ∷ drop (i + 1) items = drop_more items i entry c.loop-text-test.true ∙ ap (λ (e : LentText). e ∷ drop (i + 1) items) (sym c.loop-text-item.is) in
     elim c.match-part_at.branch [
       | in-Some+in_ok-put_last w ↦
-          let m : Member = record { kind = kind; text = w.as_str-text.result; part = w.in-Some.part } in
+          let m : Member = record { kind = kind; text = entry.0.0; part = w.in-Some.part } in
           let new : c.match-part_at.members.items ≡ w.put_last.new.members.items = search rules in
-          so_far_adds named at d kind entry all (drop i items) (drop (i + 1) items) old is m refl w.as_str-text.ensures.value
+          so_far_adds named at d kind entry all (drop i items) (drop (i + 1) items) old is m refl refl
           (λ names. w.in-Some.ensures.shown names) w.in-Some.ensures.part c.match-part_at.members.items (new ∙ w.in_ok-put_last.ensures) c.loop-text.invariant
       | in_default w ↦
           let same : c.match-part_at.members.items ≡ old = search rules in

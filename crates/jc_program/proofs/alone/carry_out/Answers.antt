@@ -22,7 +22,7 @@ returns-in_err-found-clause-stopped g c =
     let out = sink g.K.Sink c.args.out.now in
     let why = c.in_err-found.field-0.0 in
     passed_on c.from_residual.result (read_fault why) (λ (fault : WorkFault). IsStoppedCommand order.task fault told lines left out out) c.from_residual.ensures.1
-    (unread order.task told lines left out out why c.requires.alone c.in_default.not-Debug refl)
+    (unread order.task told lines left out out why c.requires.alone (c.in_default.not-Debug, c.in_default-task.not-Serve) refl)
 
 pub returns-in_err-found-clause-cause : goal.returns-in_err-found-clause-cause
 returns-in_err-found-clause-cause g c =

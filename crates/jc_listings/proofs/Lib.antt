@@ -1,0 +1,4 @@
+pub mod PlacesTreesLemmas
+pub mod PlacesLemmas
+pub mod WovenTextsLemmas
+pub mod JournalPartsLemmas

@@ -1,0 +1,15 @@
+use Rattle.std.proofs.Common.{ap}
+use Rattle.jc_network.specs.NetworkHistory.{NetworkHistory}
+use Rattle.jc_listings.proofs.JournalPartsLemmas.{twins_after, line_moved}
+use Rattle.jc_listings.proofs.journals.Networks.line.Goals as goal
+
+pub returns-in_ok-follow-in-Ok-clause-line : goal.returns-in_ok-follow-in-Ok-clause-line
+returns-in_ok-follow-in-Ok-clause-line c =
+    let n = c.args.self.now in
+    line_moved c.args.details c.step.new.self.names n.first.names c.args.next.now n.second.history.now n.first.history.now c.step.new.self.history.now c.begin.new.self.history.now c.in_ok-text-in-Ok.text.items
+    c.in-Ok.ensures.made.names c.requires.twins.same (ap (λ (k : NetworkHistory). k.history.now) c.begin.ensures) c.in_ok-text-in-Ok.ensures
+
+pub returns-in_ok-follow-in-Ok-clause-twins : goal.returns-in_ok-follow-in-Ok-clause-twins
+returns-in_ok-follow-in-Ok-clause-twins c =
+    let n = c.args.self.now in
+    twins_after n.first n.second c.step.new.self c.follow.new.net c.begin.new.self c.args.next.now.event c.in-Ok.rules.rows c.requires.twins c.in-Ok.ensures.made.step c.begin.ensures c.in_ok-follow-in-Ok.ensures.made c.in_ok-follow-in-Ok.ensures.new

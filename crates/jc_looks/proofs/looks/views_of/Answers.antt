@@ -1,0 +1,18 @@
+use Rattle.std.proofs.Common.{sym, subst}
+use Rattle.std.proofs.lemmas.Result.{IfOk-weaker}
+use Rattle.jc_looks.specs.declared.looks.Look.TheVariants as L
+use Rattle.jc_looks.specs.Looks.{ShowsLook}
+use Rattle.jc_looks.proofs.LooksLemmas.{shows_view}
+use Rattle.jc_looks.proofs.looks.views_of.Goals as goal
+
+pub returns-in-Some : goal.returns-in-Some
+returns-in-Some c =
+    let names = c.args.net.now.names in
+    let states = c.args.net.now.history.now.states in
+    IfOk-weaker c.view_of.result _ _ (λ answer h. shows_view names states c.args.p c.in-Some.p answer.items c.in-Some.is c.requires h) c.view_of.ensures
+
+pub returns-in-None : goal.returns-in-None
+returns-in-None c =
+    let names = c.args.net.now.names in
+    let states = c.args.net.now.history.now.states in
+    IfOk-weaker c.views.result _ _ (λ answer h. subst (λ r. ShowsLook names states (L.View r) answer.items) (sym c.in-None.is) h) c.views.ensures

@@ -1,0 +1,2 @@
+pub mod LookFaults
+pub mod Looks

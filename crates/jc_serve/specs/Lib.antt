@@ -1,0 +1,10 @@
+pub mod Marks
+pub mod InMemory
+pub mod Moves
+pub mod Subjects
+pub mod Asking
+pub mod Answers
+pub mod AnswerOf
+pub mod Serving
+pub mod Stopped
+pub mod Progress
