@@ -11,6 +11,11 @@ from floors import libraries
 
 NAME = re.compile(r"[A-Za-z0-9_-][A-Za-z0-9_.-]*\.edit")
 FOLDERS = ("must-fail", "more-edits")
+# The crates whose edits the gate leaves to the record, all of them. docs/DECISIONS.md says why.
+BY_RECORD = {f"jc_{name}" for name in """
+    answers app choice cli cursor dump effects journal json listings looks network parser printer program replica
+    replies requests runner scenario serve session tree view weave
+    """.split()}
 
 
 def is_of_laws(folder):
@@ -118,18 +123,28 @@ def has_edits(_):
 
 
 def gate_case(crate):
-    """The gate tries an edit of the library. One of laws alone has no bodies."""
+    """The gate tries edits of a library, or leaves all that it has to the record. One of laws alone has no bodies."""
 
     def tried(_):
         folder = f"crates/{crate}"
         expect(glob.glob(f"{folder}/src/**/*.rt", recursive=True), f"{crate} has no sources")
-        expect(is_of_laws(folder) or glob.glob(f"{folder}/must-fail/*.edit"), f"{crate} has no edit in the gate")
+        here = "more-edits" if crate in BY_RECORD else "must-fail"
+        expect(is_of_laws(folder) or glob.glob(f"{folder}/{here}/*.edit"), f"{crate} has no edit in {here}")
+        if crate in BY_RECORD:
+            expect(not glob.glob(f"{folder}/must-fail/*"), f"{crate} has edits in must-fail")
 
-    return f"edits: the gate tries one of {crate}", tried
+    who = "the record has those" if crate in BY_RECORD else "the gate tries one"
+    return f"edits: {who} of {crate}", tried
+
+
+def libraries_by_record(_):
+    """Each crate that is left to the record is a library."""
+    expect(BY_RECORD <= {*libraries()}, f"no libraries: {BY_RECORD - {*libraries()}}")
 
 
 def edits():
     yield "edits: there are some", has_edits
+    yield "edits: the record is of libraries", libraries_by_record
     yield from map(gate_case, libraries())
     yield from map(edits_case, sorted(glob.glob("crates/*")))
     for row in ROWS:
