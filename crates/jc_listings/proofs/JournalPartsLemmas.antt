@@ -27,9 +27,8 @@ use Rattle.jc_journal.specs.declared.event.NumberedEvent.{NumberedEvent}
 use Rattle.jc_journal.specs.EventLine.{AreEffects, event_line}
 use Rattle.jc_journal.specs.StuckLine.{stuck_event_line}
 use Rattle.jc_answers.specs.declared.arrays.ArrayText.{ArrayText}
-use Rattle.jc_answers.specs.JsonTexts.{array_text}
+use Rattle.jc_answers.specs.JsonTexts.{unended, array_text}
 use Rattle.jc_answers.specs.Parts.{HasItems}
-use Rattle.jc_replies.specs.ReplyTexts.{without_lf}
 use Rattle.jc_listings.specs.declared.journals.Details.{Details}
 use Rattle.jc_listings.specs.declared.journals.Networks.{Networks}
 use Rattle.jc_listings.specs.Positions.{all_events, number_behind, IsAt}
@@ -47,16 +46,16 @@ told_at (Some r) = refl
 pub made_told : (details : Details) (names : List (List ℕ)) (next : NumberedEvent) (old new : Network) (rows : List (Rule × ℕ)) (step : StepIn old next.event new rows) (effects : Option Effects) (r : Option (Bor Effects)) (rules : Option (List (Rule × ℕ))) (line text : List ℕ)
     → option_copied r ≡ effects → rules ≡ rules_asked details.trace rows → AreEffects details.effects next.event step.step.before step.step.after (differences_in effects)
     → line ≡ event_line names next.given next.number next.event rules (differences_at r) step.step.before step.step.after
-    → text ≡ without_lf line
+    → text ≡ unended line
     → IsLineMade details names next old new text
-made_told details names next old new rows step effects r rules line text same are_rules are_effects is unended =
+made_told details names next old new rows step effects r rules line text same are_rules are_effects is cut =
     let told = told_at r ∙ ap differences_in same in (
       rows,
       step,
       record {
         effects = differences_in effects;
         are_effects = are_effects;
-        is = unended ∙ ap without_lf (is ∙ (λ i. event_line names next.given next.number next.event (are_rules i) (told i) step.step.before step.step.after));
+        is = cut ∙ ap unended (is ∙ (λ i. event_line names next.given next.number next.event (are_rules i) (told i) step.step.before step.step.after));
       },
     )
 
@@ -83,12 +82,12 @@ stuck_named names network event s x named = record { why = x.why; event = event;
 
 pub stuck_told : (names : List (List ℕ)) (next : NumberedEvent) (network : Network) (s : Stuck) (line text : List ℕ) → IsStuckFor network next.event s
     → ((why : Cause) → s ≡ stuck_for why s.event → line ≡ stuck_event_line names next.given next.number network.states why s.event)
-    → text ≡ without_lf line
+    → text ≡ unended line
     → IsLineStuck names next network text
-stuck_told names next network s line text x h unended =
+stuck_told names next network s line text x h cut =
     let own : s.event ≡ next.event = ap (λ (t : Stuck). t.event) x.is in
     let told : line ≡ stuck_event_line names next.given next.number network.states x.why next.event = h x.why (x.is ∙ ap (stuck_for x.why) (sym own)) ∙ ap (stuck_event_line names next.given next.number network.states x.why) own in
-    (x.why, x.stuck, unended ∙ ap without_lf told)
+    (x.why, x.stuck, cut ∙ ap unended told)
 
 -- ---- two networks
 

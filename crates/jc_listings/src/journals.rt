@@ -18,10 +18,10 @@ ghost use Rattle.jc_listings.specs.JournalParts.{AreTwins, AreBehind, AreFound, 
 ghost use Rattle.jc_listings.specs.Positions.{all_events, IsAt};
 
 use crate::events::AllEvents;
-use jc_answers::ArrayText;
+use jc_answers::{ArrayText, unended};
 use jc_effects::Effects;
 use jc_journal::{Before, NumberedEvent, event_effects, event_line, stuck_line};
-use jc_looks::{first_network, unended};
+use jc_looks::first_network;
 use jc_network::{Net, StepFault, Stuck};
 use jc_rules::{Event, Rule, Trace};
 use jc_scenario::Scenario;
