@@ -94,11 +94,11 @@ read_more (Some bytes) (Some xs) (Some ys) turns turn read bytes_left turns_left
   λ more behind h. subst (λ (ts : List Turn). BeginWith MAX_INPUT MAX_REQUESTS bytes ts behind) (sym (append_assoc turns (turn ∷ []) more))
       (r.1 (turn ∷ more) behind (begin_behind bytes_left turns_left less fewer xs ys read turn more behind is gone size count h)),
   let parts : length xs ≡ length read + length ys = ap length gone ∙ length-append read ys in
-  let before = r.2 in
-  omega (arith, parts, before, size),
+      let before = r.2 in
+      omega (arith, parts, before, size),
   let longer = length-append turns (turn ∷ []) in
-  let before = r.3 in
-  omega (arith, longer, before, count),
+      let before = r.3 in
+      omega (arith, longer, before, count),
 )
 
 -- what was read so far is what comes first

@@ -1,11 +1,11 @@
 //! The command `serve`: requests are read one by one, and each is answered before the next is read.
 
-ghost use Rattle.std.specs.Prelude.{◌≡◌, ◌⊎◌, ◌++◌, ◌∷◌, ◌+◌, ◌↔◌, [], Ok, true, false, IsTrue, IfOk, IfErr, OnOk, IsErrOf};
+ghost use Rattle.std.specs.Prelude.{◌≡◌, ◌⊎◌, ◌++◌, ◌∷◌, ◌+◌, ◌↔◌, [], None, Ok, true, false, IsTrue, IfOk, IfErr, OnOk, IsErrOf};
 ghost use Rattle.jc_io.specs.Written.{sink, Wrote, Interrupted, Written};
 ghost use Rattle.jc_session.specs.Views.{line_of_bytes};
 ghost use Rattle.jc_session.specs.Requests as Q;
 ghost use Rattle.jc_requests.specs.Asked as K;
-ghost use Rattle.jc_requests.specs.Input.{says, brings, finished, cut_short, too_many};
+ghost use Rattle.jc_requests.specs.Input.{size_of, says, brings, finished, cut_short, too_many};
 ghost use Rattle.jc_requests.specs.Views.{asked_view};
 ghost use Rattle.jc_serve.specs.Subjects.{IsSubject};
 ghost use Rattle.jc_serve.specs.Serving.{Held as AnyHeld, IsFirst, IsQuit, Serves};
@@ -118,7 +118,8 @@ fn line_answer(
     held: &mut Held,
     line: Option<&[u8]>,
 ) -> Result<(Vec<u8>, bool), AllocError>
-    requires { IsHeld held.old }
+    requires held { IsHeld held.old }
+    requires no_text { size_of (K.asked (line_of_bytes line)) ≡ None }
     ensures answer { IfOk result (λ found.
         LeadsOn held.old (says (line_of_bytes line.entry)) held.new found.0.items) }
     ensures more { IfOk result (λ found. found.1 ≡ false ↔ IsQuit (says (line_of_bytes line.entry))) }
@@ -139,7 +140,8 @@ fn answer_line<K: Sink>(
     line: Option<&[u8]>,
     out: &mut K,
 ) -> Result<bool, ServeFault>
-    requires { IsHeld held.old }
+    requires held { IsHeld held.old }
+    requires no_text { size_of (K.asked (line_of_bytes line)) ≡ None }
     ensures goes { OnOk result (GoesOut Wrote held.old (says (line_of_bytes line.entry)) held.new
         (sink K.Sink out.old) (sink K.Sink out.new)) }
     ensures more { IfOk result (λ more. more ≡ false ↔ IsQuit (says (line_of_bytes line.entry))) }

@@ -82,8 +82,7 @@ returns-in-End-clause-finished g c = at_end (g.S.Source.left c.args.source.now) 
 
 pub returns-in-TooMany-clause-too_many : goal.returns-in-TooMany-clause-too_many
 returns-in-TooMany-clause-too_many g c = λ _.
-    let w = c.in_ok-next.ensures.too_many (ap Ok c.in-TooMany.is) in
-    (
+    let w = c.in_ok-next.ensures.too_many (ap Ok c.in-TooMany.is) in (
       past_limit (g.S.Source.left c.args.source.now) (prepend_known c.requests.input.ahead (g.S.Source.left c.requests.source)) (prepend_known c.next.new.self.ahead (g.S.Source.left c.next.new.source)) c.requests.input.bytes c.requests.input.requests c.requests.held (sink g.K.Sink c.args.out.now) (sink g.K.Sink c.requests.out) w.0 w.1 c.requests.invariant.so_far w.2 w.3 w.4,
       left_past (g.S.Source.left c.args.source.now) (prepend_known c.requests.input.ahead (g.S.Source.left c.requests.source)) c.next.new.self.ahead (g.S.Source.left c.next.new.source) c.in_ok-next.ensures.few c.requests.input.bytes c.requests.input.requests c.requests.held (sink g.K.Sink c.args.out.now) (sink g.K.Sink c.requests.out) c.requests.invariant.so_far w.0 w.1 w.2 w.3 w.4,
     )
