@@ -1,6 +1,10 @@
 -- Texts of JSON, made of texts of values: an answer is made of these.
-use Rattle.std.specs.Prelude.{ℕ, List, [], ◌∷◌, ◌++◌, map, codes, decimal}
+use Rattle.std.specs.Prelude.{ℕ, ◌-◌, List, [], ◌∷◌, ◌++◌, length, map, take, codes, decimal}
 use Rattle.jc_printer.specs.Canon.{quoted}
+
+-- a line of another command without its LF
+abbrev pub unended : List ℕ → List ℕ
+unended line = take (length line - 1) line
 
 -- a member of an object: its name, and the text of its value
 abbrev pub NamedText : Type 0

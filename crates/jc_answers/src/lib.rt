@@ -6,5 +6,5 @@ mod objects;
 mod refusals;
 
 pub use arrays::ArrayText;
-pub use objects::{Member, Value, object_text};
+pub use objects::{Member, Value, object_text, quoted, unended};
 pub use refusals::{refused, refused_text};

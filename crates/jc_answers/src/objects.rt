@@ -2,7 +2,7 @@
 
 ghost use Rattle.std.specs.Prelude.{◌≡◌, ◌++◌, ◌∷◌, [], List, IfOk, OnOk, decimal, codes};
 ghost use Rattle.jc_printer.specs.Canon.{quoted};
-ghost use Rattle.jc_answers.specs.JsonTexts.{NamedText, number_member, string_member, text_member, member_text, object_text};
+ghost use Rattle.jc_answers.specs.JsonTexts.{NamedText, unended, number_member, string_member, text_member, member_text, object_text};
 ghost use Rattle.jc_answers.specs.Parts.{value_text, named, member_of, members_of, object_begun};
 
 use jc_printer::push_quoted;
@@ -66,13 +66,30 @@ impl<'a> Member<'a> {
     }
 }
 
+/// A line without its LF.
+pub fn unended(line: Vec<u8>) -> Vec<u8>
+    ensures { result.items ≡ unended line.items }
+{
+    let mut text = line;
+    text.pop();
+    text
+}
+
+/// A string, escaped and in quotes.
+pub fn quoted(alloc: Global, s: &str) -> Result<Vec<u8>, AllocError>
+    ensures { IfOk result (λ text. text.items ≡ quoted s.now) }
+{
+    let mut text = String::new(alloc);
+    push_quoted(&mut text, s)?;
+    Ok(text.into_bytes())
+}
+
 /// Appends a string, escaped and in quotes.
 pub(crate) fn push_string(out: &mut Vec<u8>, s: &str) -> Result<(), AllocError>
     ensures { OnOk result (out.new.items ≡ out.old.items ++ quoted s.now) }
 {
-    let mut text = String::new(*out.allocator());
-    push_quoted(&mut text, s)?;
-    out.extend_from_slice(text.as_bytes())
+    let text = quoted(*out.allocator(), s)?;
+    out.extend_from_slice(text.as_slice())
 }
 
 /// Appends a number's digits.

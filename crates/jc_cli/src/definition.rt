@@ -3,7 +3,7 @@
 
 ghost use Rattle.std.specs.Prelude.{◌≡◌, IfOk, false};
 ghost use Rattle.clap.specs.Words.{app_of, rule_of, new_app, with_rule};
-ghost use Rattle.jc_cli.specs.Program.{IsLocal, file_rule, trace_rule, effects_rule, limit_rule, seed_rule, plain_app, run_app, view_app, journal_app, serve_app, threads_app, weave_app, program};
+ghost use Rattle.jc_cli.specs.Program.{IsLocal, file_rule, trace_rule, effects_rule, limit_rule, seed_rule, plain_app, run_app, view_app, journal_app, serve_app, threads_app, weave_app, bare, program};
 
 use crate::help::{
     ABOUT, CHECK, DEBUG, JOURNAL, PRINT, PROGRAM, RUN, SERVE, THREADS, USAGE, VERSION, VIEW, WEAVE,
@@ -178,10 +178,9 @@ fn weave<'a>(alloc: Global) -> Result<Command<'a>, AllocError>
         .arg(file(alloc))
 }
 
-/// The whole command line, without the program's name. Each command is made right before it is added, so that
-/// there is only one to drop where there is no memory.
-pub(crate) fn definition<'a>(alloc: Global) -> Result<Command<'a>, AllocError>
-    ensures { IfOk result (λ c. app_of c ≡ program) }
+/// The program without its commands.
+fn bare<'a>(alloc: Global) -> Result<Command<'a>, AllocError>
+    ensures { IfOk result (λ c. app_of c ≡ bare) }
 {
     let top = Command::new(alloc, "jsoncrdt")
         .bin_name("jsoncrdt")?
@@ -192,6 +191,15 @@ pub(crate) fn definition<'a>(alloc: Global) -> Result<Command<'a>, AllocError>
         .no_binary_name(true)
         .disable_help_subcommand(true)
         .subcommand_required(true);
+    Ok(top)
+}
+
+/// The whole command line, without the program's name. Each command is made right before it is added, so that
+/// there is only one to drop where there is no memory.
+pub(crate) fn definition<'a>(alloc: Global) -> Result<Command<'a>, AllocError>
+    ensures { IfOk result (λ c. app_of c ≡ program) }
+{
+    let top = bare(alloc)?;
     let check = plain(
         alloc,
         "check",

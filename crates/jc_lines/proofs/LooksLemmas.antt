@@ -20,7 +20,7 @@ use Rattle.jc_answers.specs.JsonTexts.{array_text}
 use Rattle.jc_answers.specs.Refusals.{refusal_members}
 use Rattle.jc_looks.specs.declared.looks.Look.{Look}
 use Rattle.jc_looks.specs.declared.looks.Look.TheVariants as L
-use Rattle.jc_looks.specs.Looks.{unended, view_text, state_text, place_text, viewed_text, texts_from, missing_key, no_value_answer, ShowsValue, ShowsLook}
+use Rattle.jc_looks.specs.Looks.{view_text, state_text, place_text, viewed_text, texts_from, missing_key, no_value_answer, ShowsValue, ShowsLook}
 use Rattle.jc_lines.specs.OneLine.{HasNoLf}
 use Rattle.jc_lines.proofs.NoLfLemmas.{decimal_line, canon_quoted, ended}
 use Rattle.jc_lines.proofs.CompactLemmas.{compact_line}
@@ -38,7 +38,7 @@ brief_line : (names : List (List ℕ)) (name : List ℕ) (A : State) → HasNoLf
 unfolding brief_text
 brief_line names name A = compact_line (object_of (brief_members names name A))
 
-state_line : (names : List (List ℕ)) (name : List ℕ) (A : State) → HasNoLf (state_text names name A)
+pub state_line : (names : List (List ℕ)) (name : List ℕ) (A : State) → HasNoLf (state_text names name A)
 unfolding dump_line
 state_line names name A = ended (compact_text (dump_of names name A)) (compact_line (dump_of names name A))
 
@@ -72,7 +72,7 @@ value_line : (text : Bound → List ℕ) (names : List (List ℕ)) (A : State) (
 value_line text names A e answer h (inl given) = rw given.2 (h given.0)
 value_line text names A e answer h (inr refused) = rw refused.2 (no_value_line names refused.0)
 
-lines_from : (text : List (List ℕ) → List ℕ → State → List ℕ) (names : List (List ℕ)) → ((name : List ℕ) (A : State) → HasNoLf (text names name A)) → (p : ℕ) (states : List State) → AreLines (texts_from text p names states)
+pub lines_from : (text : List (List ℕ) → List ℕ → State → List ℕ) (names : List (List ℕ)) → ((name : List ℕ) (A : State) → HasNoLf (text names name A)) → (p : ℕ) (states : List State) → AreLines (texts_from text p names states)
 lines_from text names h p [] = tt
 lines_from text names h p (A ∷ states) = (h (name_at names p) A, lines_from text names h (suc p) states)
 

@@ -1,25 +1,22 @@
 -- About Laws: the answer of a session's reply has no LF.
-use Rattle.std.proofs.Common.{◌≡◌, ℕ, suc, ◌+◌, List, [], ◌∷◌, ◌++◌, map, Option, Some, None, true, false, codes, decimal, refl}
+use Rattle.std.proofs.Common.{◌≡◌, ℕ, ◌+◌, List, [], ◌∷◌, ◌++◌, map, Option, Some, None, true, false, codes, decimal, refl}
 use Rattle.jc_rules.specs.declared.operation.Event.{Event}
 use Rattle.jc_rules.specs.declared.rule.Rule.{Rule}
 use Rattle.jc_rules.specs.Refused.{Cause}
 use Rattle.jc_rules.specs.RuleNames.{rule_name}
-use Rattle.jc_rules.specs.ReplicaNames.{name_at}
-use Rattle.jc_rules.specs.State.{State}
 use Rattle.jc_printer.specs.Canon.{canon_event, quoted}
-use Rattle.serde_json.specs.Written.{compact_text}
-use Rattle.jc_dump.specs.Dump.{dump_of, dump_line}
 use Rattle.jc_debug.specs.DebuggerState.{StuckEvent, RunOutcome, breaks, sticks, ends}
 use Rattle.jc_meaning.specs.declared.comparison.Comparison.{Comparison}
 use Rattle.jc_meaning.specs.declared.comparison.Comparison.TheVariants.{SameOps, DifferentOps}
 use Rattle.jc_session.specs.Reply as Y
 use Rattle.jc_session.specs.Reply.{Reply}
 use Rattle.jc_answers.specs.JsonTexts.{NamedText, number_member, text_member, array_text}
-use Rattle.jc_replies.specs.ReplyTexts.{Background, true_member, event_to, event_member, stuck_member, move_answer, went_answer, ran_answer, state_answer, state_answers, event_texts, events_answer, row_text, trace_answer, compared_answer, IsAnswer}
+use Rattle.jc_replies.specs.ReplyTexts.{Background, true_member, event_to, event_member, stuck_member, move_answer, went_answer, ran_answer, event_texts, events_answer, row_text, trace_answer, compared_answer, IsAnswer}
+use Rattle.jc_looks.specs.Looks.{state_text, texts_from}
 use Rattle.jc_lines.specs.OneLine.{HasNoLf}
-use Rattle.jc_lines.proofs.NoLfLemmas.{literal, decimal_line, canon_quoted, ended}
-use Rattle.jc_lines.proofs.CompactLemmas.{compact_line}
+use Rattle.jc_lines.proofs.NoLfLemmas.{literal, decimal_line, canon_quoted}
 use Rattle.jc_lines.proofs.AnswersLemmas.{AreLines, HaveLines, array_line, object_line, refusal_line, text_line}
+use Rattle.jc_lines.proofs.LooksLemmas.{state_line, lines_from}
 use Rattle.jc_lines.proofs.StuckLinesLemmas.{stuck_line}
 
 -- ---- members
@@ -53,14 +50,6 @@ ran_line B n ends = move_line B n (true_member (codes "end")) [] (literal (codes
 
 -- ---- what is shown
 
-state_line : (names : List (List ℕ)) (name : List ℕ) (A : State) → HasNoLf (state_answer names name A)
-unfolding dump_line
-state_line names name A = ended (compact_text (dump_of names name A)) (compact_line (dump_of names name A))
-
-states_lines : (p : ℕ) (names : List (List ℕ)) (states : List State) → AreLines (state_answers p names states)
-states_lines p names [] = tt
-states_lines p names (A ∷ states) = (state_line names (name_at names p) A, states_lines (suc p) names states)
-
 events_lines : (names : List (List ℕ)) (events : List Event) → AreLines (event_texts names events)
 events_lines names [] = tt
 events_lines names (event ∷ events) = (canon_quoted (canon_event names event), events_lines names events)
@@ -91,7 +80,7 @@ reply_line B text (Y.went n stuck) answer h = rw h (went_line B n stuck)
 reply_line B text (Y.ran n outcome) answer h = rw h (ran_line B n outcome)
 reply_line B text (Y.set k) answer h = rw h (object_line (number_member (codes "set") k) (number_line (codes "set") k))
 reply_line B text (Y.cleared k) answer h = rw h (object_line (number_member (codes "cleared") k) (number_line (codes "cleared") k))
-reply_line B text (Y.states all) answer h = rw h (array_line (state_answers 0 B.names all) (states_lines 0 B.names all))
+reply_line B text (Y.states all) answer h = rw h (array_line (texts_from state_text 0 B.names all) (lines_from state_text B.names (state_line B.names) 0 all))
 reply_line B text (Y.state_of name state) answer h = rw h (state_line B.names name state)
 reply_line B text (Y.traced n event rows) answer h = rw h (trace_line B.names n event rows)
 reply_line B text Y.at_start answer h = rw h (object_line (true_member (codes "start")) (literal (codes "true") refl, tt))

@@ -18,7 +18,7 @@ use Rattle.jc_json.specs.Values.{string_items, strings_json}
 use Rattle.jc_journal.specs.Operation.{NamedJson, json_members, json_object}
 use Rattle.jc_journal.specs.EventLine.{given_member, event_member, kind_member, number_member, replica_member}
 use Rattle.jc_journal.specs.StuckLine.{key_member, wanted_id, offering_from, offered_member, missing_ids, missing_member, stuck_members, stuck_event_line}
-use Rattle.jc_replies.specs.ReplyTexts.{without_lf}
+use Rattle.jc_answers.specs.JsonTexts.{unended}
 use Rattle.jc_lines.specs.OneLine.{HasNoLf}
 use Rattle.jc_lines.proofs.NoLfLemmas.{decimal_line, ended}
 use Rattle.jc_lines.proofs.PrintedLemmas.{HasLineNumbers, ItemsHaveLineNumbers, MembersHaveLineNumbers, printed_line}
@@ -84,7 +84,7 @@ stuck_lines names given n network why event =
     (missing_lines names refusal event network)) (decimal_line n, tt)) (offered_lines names refusal (wanted_id event) network))
     (tt, (decimal_line refusal, tt))
 
-pub stuck_line : (names : List (List ℕ)) (given : Bool) (n : ℕ) (network : List State) (why : Cause) (event : Event) → HasNoLf (without_lf (stuck_event_line names given n network why event))
+pub stuck_line : (names : List (List ℕ)) (given : Bool) (n : ℕ) (network : List State) (why : Cause) (event : Event) → HasNoLf (unended (stuck_event_line names given n network why event))
 stuck_line names given n network why event =
     let es = stuck_members names given n network why event in
     ended (print (json_tokens (json_object es))) (printed_line (json_object es) (in_object es (stuck_lines names given n network why event)))

@@ -1,17 +1,18 @@
 -- About `JournalParts` and `Journals`: two networks behind the same events, the line of the next one, and lines one
 -- after another. The functions of `journals` use it.
-use Rattle.std.proofs.Common.{◌≡◌, ℕ, suc, ◌+◌, ◌-◌, ◌<◌, ◌≤◌, List, [], ◌∷◌, ◌++◌, length, take, drop, get_or, slice_get, Bool, true, false, not, Option, Some, None, option_copied, refl, ap, sym, subst, ◌∙◌, append_assoc, append-nil, arith}
+use Rattle.std.proofs.Common.{◌≡◌, ℕ, zero, suc, ◌+◌, ◌-◌, ◌<◌, ◌≤◌, List, [], ◌∷◌, ◌++◌, length, take, drop, get_or, slice_get, Bool, true, false, not, Option, Some, None, option_copied, refl, ap, sym, subst, ◌∙◌, append_assoc, append-nil, arith}
 use Rattle.std.specs.Borrow.{Bor}
 use Rattle.std.specs.List.{All}
-use Rattle.std.proofs.lemmas.List.{take_more, drop_more}
+use Rattle.std.proofs.lemmas.List.{take_more, take-take, drop_more}
 use Rattle.std.proofs.lemmas.List.Elements.{All-append, All-get_or}
 use Rattle.std.proofs.lemmas.Option.{slice_get_within, get_or_from_slice_get}
+use Rattle.jc_rules.specs.declared.limits.TheConstants.{MAX_EVENTS}
 use Rattle.jc_rules.specs.declared.operation.Event.{Event}
 use Rattle.jc_rules.specs.declared.rule.Rule.{Rule}
 use Rattle.jc_rules.specs.History.{begun}
 use Rattle.jc_rules.specs.Refused.{Cause, IsStuckIn}
 use Rattle.jc_rules.specs.Step.{Network, StepIn, AfterIn}
-use Rattle.jc_rules.proofs.VersionLemmas.{one_step_in}
+use Rattle.jc_rules.proofs.VersionLemmas.{one_step_in, stuck_in_has_none}
 use Rattle.jc_printer.specs.Canon.{AreNamed}
 use Rattle.jc_scenario.specs.WellFormed.{Scenario, IsWellFormedScenario}
 use Rattle.jc_network.specs.declared.fault.Stuck.{Stuck}
@@ -19,6 +20,7 @@ use Rattle.jc_network.specs.Given.{before_given, IsBeforeGiven}
 use Rattle.jc_network.specs.NetworkHistory.{NetworkHistory}
 use Rattle.jc_network.specs.Steps.{IsStuckFor, stuck_for}
 use Rattle.jc_network.proofs.AfterLemmas.{after_one_more}
+use Rattle.jc_network.proofs.GivenLemmas.{led_or_stuck}
 use Rattle.jc_dump.specs.Lines.{IsNamedStuck}
 use Rattle.jc_effects.specs.declared.effects.Effects.{Effects}
 use Rattle.jc_effects.specs.Difference.{Differences}
@@ -27,12 +29,11 @@ use Rattle.jc_journal.specs.declared.event.NumberedEvent.{NumberedEvent}
 use Rattle.jc_journal.specs.EventLine.{AreEffects, event_line}
 use Rattle.jc_journal.specs.StuckLine.{stuck_event_line}
 use Rattle.jc_answers.specs.declared.arrays.ArrayText.{ArrayText}
-use Rattle.jc_answers.specs.JsonTexts.{array_text}
+use Rattle.jc_answers.specs.JsonTexts.{unended, array_text}
 use Rattle.jc_answers.specs.Parts.{HasItems}
-use Rattle.jc_replies.specs.ReplyTexts.{without_lf}
 use Rattle.jc_listings.specs.declared.journals.Details.{Details}
 use Rattle.jc_listings.specs.declared.journals.Networks.{Networks}
-use Rattle.jc_listings.specs.Positions.{all_events, number_behind, IsAt}
+use Rattle.jc_listings.specs.Positions.{all_events, number_behind, IsAt, StopsAt}
 use Rattle.jc_listings.specs.Journals.{rules_asked, IsMadeLine, stuck_line_in, AreLines, none, made, stuck, events_between, ListsLines, unreached, lists, IsLineBehind}
 use Rattle.jc_listings.specs.JournalParts.{AreTwins, AreBehind, IsUnreached, IsLineMade, IsLineStuck, IsNextLine}
 
@@ -47,16 +48,16 @@ told_at (Some r) = refl
 pub made_told : (details : Details) (names : List (List ℕ)) (next : NumberedEvent) (old new : Network) (rows : List (Rule × ℕ)) (step : StepIn old next.event new rows) (effects : Option Effects) (r : Option (Bor Effects)) (rules : Option (List (Rule × ℕ))) (line text : List ℕ)
     → option_copied r ≡ effects → rules ≡ rules_asked details.trace rows → AreEffects details.effects next.event step.step.before step.step.after (differences_in effects)
     → line ≡ event_line names next.given next.number next.event rules (differences_at r) step.step.before step.step.after
-    → text ≡ without_lf line
+    → text ≡ unended line
     → IsLineMade details names next old new text
-made_told details names next old new rows step effects r rules line text same are_rules are_effects is unended =
+made_told details names next old new rows step effects r rules line text same are_rules are_effects is cut =
     let told = told_at r ∙ ap differences_in same in (
       rows,
       step,
       record {
         effects = differences_in effects;
         are_effects = are_effects;
-        is = unended ∙ ap without_lf (is ∙ (λ i. event_line names next.given next.number next.event (are_rules i) (told i) step.step.before step.step.after));
+        is = cut ∙ ap unended (is ∙ (λ i. event_line names next.given next.number next.event (are_rules i) (told i) step.step.before step.step.after));
       },
     )
 
@@ -83,12 +84,46 @@ stuck_named names network event s x named = record { why = x.why; event = event;
 
 pub stuck_told : (names : List (List ℕ)) (next : NumberedEvent) (network : Network) (s : Stuck) (line text : List ℕ) → IsStuckFor network next.event s
     → ((why : Cause) → s ≡ stuck_for why s.event → line ≡ stuck_event_line names next.given next.number network.states why s.event)
-    → text ≡ without_lf line
+    → text ≡ unended line
     → IsLineStuck names next network text
-stuck_told names next network s line text x h unended =
+stuck_told names next network s line text x h cut =
     let own : s.event ≡ next.event = ap (λ (t : Stuck). t.event) x.is in
     let told : line ≡ stuck_event_line names next.given next.number network.states x.why next.event = h x.why (x.is ∙ ap (stuck_for x.why) (sym own)) ∙ ap (stuck_event_line names next.given next.number network.states x.why) own in
-    (x.why, x.stuck, unended ∙ ap without_lf told)
+    (x.why, x.stuck, cut ∙ ap unended told)
+
+-- ---- what can be made
+
+-- no network without earlier steps has made all that it may
+pub not_full : (c : NetworkHistory) → c.history.earlier ≡ [] → MAX_EVENTS ≤ length c.history.earlier → ⊥
+not_full c new full = let none : length c.history.earlier ≡ 0 = ap length new in omega (arith, none, full)
+
+-- an event that can be made isn't stuck
+pub not_stuck : (network : Network) (event : Event) (s : Stuck) → ((next : Network) × (rows : List (Rule × ℕ)) × StepIn network event next rows) → IsStuckFor network event s → ⊥
+not_stuck network event s can h = stuck_in_has_none network can.0 event h.why can.1 h.stuck can.2
+
+-- what can be made in the first can be made in the second
+pub twin_can : (first second : NetworkHistory) (next : Network) (event : Event) (rows : List (Rule × ℕ)) → AreTwins first second → StepIn first.history.now event next rows → (M : Network) × (ls : List (Rule × ℕ)) × StepIn second.history.now event M ls
+twin_can first second next event rows t step = (next, rows, subst (λ (n : Network). StepIn n event next rows) (sym t.same) step)
+
+-- behind an event that is stuck there is nothing
+pub not_behind : (s : Scenario) (schedule : List Event) (stop : ℕ) (K : Network) (e : Event) (why : Cause) (n : ℕ) (N : Network) → StopsAt s schedule stop K e why → stop < n → IsAt s schedule n N → ⊥
+not_behind s schedule stop K e why n N stops lt h =
+    let events = all_events s schedule in
+    (led_or_stuck s.scripts (before_given s) (take n events) ([], refl)).1 N (stop + 1) e why h.after
+    (record {
+      before = stop;
+      network = K;
+      at_is = refl;
+      led = subst (λ (es : List Event). AfterIn (before_given s) es K) (sym (take-take stop n events (omega (arith, lt)))) stops.is_at.after;
+      is = get_taken events n stop lt ∙ stops.is;
+      stuck = stops.stuck;
+    })
+  where
+    get_taken : (xs : List Event) (n k : ℕ) → k < n → slice_get (take n xs) k ≡ slice_get xs k
+    get_taken xs zero k h = absurd (omega (arith, h))
+    get_taken [] (suc n) k h = refl
+    get_taken (x ∷ xs) (suc n) zero h = refl
+    get_taken (x ∷ xs) (suc n) (suc k) h = get_taken xs n k (omega (arith, h))
 
 -- ---- two networks
 
@@ -228,20 +263,28 @@ lines_end details s schedule first last start count now a h all =
 
 -- ---- the line of one event
 
-pub line_there : (details : Details) (s : Scenario) (schedule : List Event) (count : ℕ) (old : Networks) (new : Network) (next : NumberedEvent) (is_stuck : Bool) (text : List ℕ) → AreBehind s schedule count old → slice_get (all_events s schedule) count ≡ Some next.event → (next.given, next.number) ≡ number_behind s count → is_stuck ≡ false → IsNextLine details old.first.names next old.first.history.now new is_stuck text → IsLineBehind details s schedule count text
-line_there details s schedule count old new next is_stuck text b is number no_stop line =
-    let m = made_of details old.first.names next old.first.history.now new is_stuck text no_stop line in
-    record {
-      network = old.first.history.now;
-      between = new;
-      event = next.event;
-      rows = m.0;
-      is_at = b.is_at;
-      is = is;
-      step = m.1;
-      line = subst (λ (ns : List (List ℕ)). IsMadeLine details ns (number_behind s count) next.event m.0 m.1.step.before m.1.step.after text) b.names
-          (subst (λ (n : Bool × ℕ). IsMadeLine details old.first.names n next.event m.0 m.1.step.before m.1.step.after text) number m.2);
-    }
+module _ (details : Details) (s : Scenario) (schedule : List Event) (count : ℕ) (old : Networks) (new : Network) (next : NumberedEvent) (b : AreBehind s schedule count old) (is : slice_get (all_events s schedule) count ≡ Some next.event) (there : (M : Network) × IsAt s schedule (suc count) M) where
+  -- an event behind which something is isn't stuck
+  goes_on : (is_stuck : Bool) (text : List ℕ) → IsNextLine details old.first.names next old.first.history.now new is_stuck text → is_stuck ≡ false
+  goes_on false text line = refl
+  goes_on true text line =
+      let le : count < suc count = omega arith in
+      absurd (not_behind s schedule count old.first.history.now next.event line.0 (suc count) there.0 (record { is_at = b.is_at; is = is; stuck = line.1 }) le there.1)
+
+  pub line_there : (is_stuck : Bool) (text : List ℕ) → (next.given, next.number) ≡ number_behind s count → IsNextLine details old.first.names next old.first.history.now new is_stuck text → IsLineBehind details s schedule count text
+  line_there is_stuck text number line =
+      let m = made_of details old.first.names next old.first.history.now new is_stuck text (goes_on is_stuck text line) line in
+      record {
+        network = old.first.history.now;
+        between = new;
+        event = next.event;
+        rows = m.0;
+        is_at = b.is_at;
+        is = is;
+        step = m.1;
+        line = subst (λ (ns : List (List ℕ)). IsMadeLine details ns (number_behind s count) next.event m.0 m.1.step.before m.1.step.after text) b.names
+            (subst (λ (n : Bool × ℕ). IsMadeLine details old.first.names n next.event m.0 m.1.step.before m.1.step.after text) number m.2);
+      }
 
 -- ---- answers
 

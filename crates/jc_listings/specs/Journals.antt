@@ -12,9 +12,9 @@ use Rattle.jc_journal.specs.EventLine.{AreEffects, event_line}
 use Rattle.jc_journal.specs.StuckLine.{stuck_event_line}
 use Rattle.jc_listings.specs.declared.journals.Details.{Details}
 use Rattle.jc_requests.specs.Asked.{Position}
-use Rattle.jc_answers.specs.JsonTexts.{object_text, array_text}
+use Rattle.jc_answers.specs.JsonTexts.{unended, object_text, array_text}
 use Rattle.jc_answers.specs.Refusals.{refusal_answer}
-use Rattle.jc_replies.specs.ReplyTexts.{without_lf, true_member}
+use Rattle.jc_replies.specs.ReplyTexts.{true_member}
 use Rattle.jc_listings.specs.Positions.{all_events, count_of, count_at, number_behind, unreached_answer, IsAt, StopsAt}
 
 -- the rules of an event, where they are asked for
@@ -31,12 +31,12 @@ pub record IsMadeLine
   pub effects : Option Differences
   pub are_effects : AreEffects details.effects event A B effects
   pub is : text
-      ≡ without_lf (event_line names number.0 number.1 event (rules_asked details.trace rows) effects A B)
+      ≡ unended (event_line names number.0 number.1 event (rules_asked details.trace rows) effects A B)
 
 -- the line of such an event that is stuck in the network
 abbrev pub stuck_line_in : List (List ℕ) → Bool × ℕ → Network → Cause → Event → List ℕ
 stuck_line_in names number network why event =
-    without_lf (stuck_event_line names number.0 number.1 network.states why event)
+    unended (stuck_event_line names number.0 number.1 network.states why event)
 
 -- the line of the event behind so many, which is stuck in the network
 abbrev pub stuck_line_behind : Scenario → ℕ → Network → Cause → Event → List ℕ

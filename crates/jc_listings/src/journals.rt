@@ -18,10 +18,10 @@ ghost use Rattle.jc_listings.specs.JournalParts.{AreTwins, AreBehind, AreFound, 
 ghost use Rattle.jc_listings.specs.Positions.{all_events, IsAt};
 
 use crate::events::AllEvents;
-use jc_answers::ArrayText;
+use jc_answers::{ArrayText, unended};
 use jc_effects::Effects;
 use jc_journal::{Before, NumberedEvent, event_effects, event_line, stuck_line};
-use jc_looks::{first_network, unended};
+use jc_looks::first_network;
 use jc_network::{Net, StepFault, Stuck};
 use jc_rules::{Event, Rule, Trace};
 use jc_scenario::Scenario;
@@ -131,13 +131,18 @@ fn stuck_line_of(
 
 /// Makes an event in a network in which it can be made. Nothing is kept to go back with.
 fn follow(net: &mut Net, event: &Event) -> Result<(), AllocError>
-    requires { net.old.history.earlier ≡ [] }
+    requires new { net.old.history.earlier ≡ [] }
+    requires can { (next : AnyNetwork) × (rows : List (AnyRule × ℕ))
+        × StepIn net.old.history.now event.now next rows }
     ensures made { OnOk result ((rows : List (AnyRule × ℕ))
         × StepIn net.old.history.now event.now net.new.history.now rows) }
     ensures new { OnOk result (net.new.history.earlier ≡ []) }
 {
-    if net.step(event).is_err() {
-        return Err(AllocError);
+    match net.step(event) {
+        Ok(_) => {}
+        Err(StepFault::Memory) => return Err(AllocError),
+        Err(StepFault::Full) => unreachable!(),
+        Err(StepFault::Stuck(_)) => unreachable!(),
     }
     net.begin();
     Ok(())
@@ -168,7 +173,8 @@ impl Networks {
         match self.first.step(event) {
             Ok(_) => {}
             Err(StepFault::Stuck(_)) => return Ok(false),
-            Err(_) => return Err(AllocError),
+            Err(StepFault::Memory) => return Err(AllocError),
+            Err(StepFault::Full) => unreachable!(),
         }
         self.first.begin();
         follow(&mut self.second, event)?;
@@ -206,7 +212,8 @@ impl Networks {
                     is_stuck: true,
                 })
             }
-            Err(_) => Err(AllocError),
+            Err(StepFault::Memory) => Err(AllocError),
+            Err(StepFault::Full) => unreachable!(),
         }
     }
 
@@ -314,12 +321,9 @@ pub fn line_behind(
     let events = AllEvents { scenario, schedule };
     let found = networks_behind(alloc, &events, count)?;
     let Some(mut networks) = found else {
-        return Err(AllocError);
+        unreachable!();
     };
     let next = events.behind(count);
     let line = networks.line(alloc, &next, details)?;
-    if line.is_stuck {
-        return Err(AllocError);
-    }
     Ok(line.text)
 }

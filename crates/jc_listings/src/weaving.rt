@@ -1,8 +1,7 @@
 //! The schedule that a seed gives, and how each replica ended in it.
 
-ghost use Rattle.std.specs.Prelude.{◌≡◌, ◌≤◌, ◌++◌, ◌∷◌, [], ℕ, List, IfOk, OnOk, All, length};
+ghost use Rattle.std.specs.Prelude.{◌≡◌, ◌≤◌, IfOk, All, length};
 ghost use Rattle.jc_rules.specs.declared.limits.TheConstants.{MAX_EVENTS};
-ghost use Rattle.jc_printer.specs.Canon.{AreNamed, canon_event, quoted};
 ghost use Rattle.jc_scenario.specs.Views.{scenario_view};
 ghost use Rattle.jc_scenario.specs.WellFormed.{IsWellFormedScenario};
 ghost use Rattle.jc_rules.specs.Step.{Network as AnyNetwork};
@@ -10,47 +9,19 @@ ghost use Rattle.jc_network.specs.Given.{IsStart};
 ghost use Rattle.jc_choice.specs.declared.end.End.TheVariants.{StuckAt};
 ghost use Rattle.jc_dump.specs.Lines.{IsNamedStuck};
 ghost use Rattle.jc_answers.specs.JsonTexts.{object_text, array_text};
-ghost use Rattle.jc_answers.specs.Parts.{member_of, HasItems};
-ghost use Rattle.jc_replies.specs.ReplyTexts.{events_answer};
+ghost use Rattle.jc_answers.specs.Parts.{member_of};
 ghost use Rattle.jc_listings.specs.WovenTexts.{stuck_members, end_members, end_answers, IsNamedEnd, IsWovenText};
 
 use jc_answers::{ArrayText, Member, object_text};
 use jc_choice::End;
 use jc_json::tagged_text;
-use jc_network::Stuck;
+use jc_network::{StartFault, Stuck};
 use jc_printer::print_event;
-use jc_rules::{Event, Refusal, Text};
+use jc_replies::events_answer;
+use jc_rules::{Refusal, Text};
 use jc_scenario::Scenario;
 use jc_weave::weave;
 use std::alloc::{AllocError, Global};
-
-/// Appends the text of an event to the list.
-fn push_event(
-    list: &mut ArrayText,
-    alloc: Global,
-    names: &[Text],
-    event: &Event,
-) -> Result<(), AllocError>
-    requires { AreNamed event.now (length names.now) }
-    ensures { OnOk result ((ts : List (List ℕ))
-        → HasItems list.old ts
-        → HasItems list.new (ts ++ quoted (canon_event names.now event.now) ∷ [])) }
-{
-    let text = print_event(alloc, names, event)?;
-    list.push_string(text.as_str())
-}
-
-/// A list of the texts of events.
-fn events_answer(alloc: Global, names: &[Text], events: &[Event]) -> Result<Vec<u8>, AllocError>
-    requires { All (λ e. AreNamed e (length names.now)) events.now }
-    ensures { IfOk result (λ answer. answer.items ≡ events_answer names.now events.now) }
-{
-    let mut list = ArrayText::new(alloc)?;
-    for event in events {
-        push_event(&mut list, alloc, names, event)?;
-    }
-    list.end()
-}
 
 /// How a replica ended that got stuck, with the text of the event and the member of a key.
 fn stuck_text(
@@ -163,8 +134,10 @@ pub fn woven_answer(
     requires few { limit ≤ MAX_EVENTS }
     ensures { IfOk result (λ answer. IsWovenText (scenario_view scenario.now) seed limit answer.items) }
 {
-    let Ok(woven) = weave(alloc, scenario, seed, limit) else {
-        return Err(AllocError);
+    let woven = match weave(alloc, scenario, seed, limit) {
+        Ok(woven) => woven,
+        Err(StartFault::Memory) => return Err(AllocError),
+        Err(StartFault::Given { .. }) => unreachable!(),
     };
     let names = scenario.names.as_slice();
     let ends = ends_answer(alloc, names, woven.made.as_slice(), woven.ends.as_slice())?;

@@ -1,15 +1,21 @@
 -- Of `Looks`: lists of views, and what is shown of a network's replica.
-use Rattle.std.proofs.Common.{◌≡◌, ℕ, zero, suc, ◌+◌, ◌<◌, ◌≤◌, List, [], ◌∷◌, ◌++◌, length, take, get_or, slice_get, Option, Some, IfSome, inr, sym, ap, subst, ◌∙◌, arith}
+use Rattle.std.proofs.Common.{◌≡◌, ℕ, zero, suc, ◌+◌, ◌<◌, ◌≤◌, List, [], ◌∷◌, ◌++◌, length, take, get_or, slice_get, Option, Some, IfSome, inr, refl, sym, ap, subst, ◌∙◌, arith}
 use Rattle.std.proofs.lemmas.List.{take_all}
 use Rattle.std.proofs.lemmas.Option.{slice_get-get_or}
+use Rattle.jc_rules.specs.declared.operation.Event.{Event}
 use Rattle.jc_rules.specs.Refused.{Cause}
 use Rattle.jc_rules.specs.ReplicaNames.{name_at}
 use Rattle.jc_rules.specs.State.{State, Bound, start}
 use Rattle.jc_rules.specs.Context.{Context}
 use Rattle.jc_rules.specs.Syntax.{Expr}
+use Rattle.jc_rules.specs.Step.{Network, AfterIn}
 use Rattle.jc_rules.specs.Trace.{Rows}
+use Rattle.jc_scenario.specs.WellFormed.{Scenario}
 use Rattle.jc_replica.specs.ReplicaHistory.{ReplicaHistory, no_rows}
+use Rattle.jc_network.specs.declared.fault.Stuck.{Stuck}
+use Rattle.jc_network.specs.Given.{before_given, IsGivenFault}
 use Rattle.jc_network.specs.Steps.{HasReplica}
+use Rattle.jc_network.proofs.GivenLemmas.{led_or_stuck}
 use Rattle.jc_cursor.specs.Evaluates.{Evaluates, IsEvalRefused}
 use Rattle.jc_answers.specs.declared.arrays.ArrayText.{ArrayText}
 use Rattle.jc_answers.specs.Parts.{HasItems}
@@ -96,3 +102,11 @@ pub refused_shows : (text : State → Bound → List ℕ) (names : List (List �
     → RefusesBy (λ answer. OfReplica states p (λ A. ShowsValue (text A) names A e answer)) fault
 refused_shows text names states p e (F.Refused answer) h = (h.0, h.1, inr h.2)
 refused_shows text names states p e F.Memory h = tt
+
+-- ---- networks before the start
+
+-- of given events that lead somewhere none is stuck
+pub none_stuck : (s : Scenario) (given : List Event) (first last : Network) (at : ℕ) (t : Stuck) → first ≡ before_given s → AfterIn (before_given s) given last → IsGivenFault first given at t → ⊥
+none_stuck s given first last at t is led h =
+    let fault : IsGivenFault (before_given s) given at t = subst (λ (N : Network). IsGivenFault N given at t) is h in
+    (led_or_stuck s.scripts (before_given s) given ([], refl)).1 last at fault.event fault.why led fault.stuck

@@ -1,5 +1,5 @@
 -- What is shown of the replicas of a network, whichever position that is at.
-use Rattle.std.specs.Prelude.{◌≡◌, ℕ, suc, ◌-◌, ◌<◌, ◌⊎◌, List, [], ◌∷◌, ◌++◌, length, take, slice_get, Some, None, codes}
+use Rattle.std.specs.Prelude.{◌≡◌, ℕ, suc, ◌<◌, ◌⊎◌, List, [], ◌∷◌, ◌++◌, slice_get, Some, None, codes}
 use Rattle.jc_rules.specs.declared.operation.Cursor.{Cursor}
 use Rattle.jc_rules.specs.Refused.{Cause, because, no_node, refusal_of}
 use Rattle.jc_rules.specs.ReplicaNames.{name_at}
@@ -13,16 +13,12 @@ use Rattle.jc_cursor.specs.Evaluates.{Evaluates, IsEvalRefused}
 use Rattle.jc_dump.specs.Dump.{dump_line, bound_text, brief_text}
 use Rattle.jc_view.specs.Visible.{view_line}
 use Rattle.jc_view.specs.Places.{place_line}
-use Rattle.jc_answers.specs.JsonTexts.{NamedText, string_member, array_text}
+use Rattle.jc_answers.specs.JsonTexts.{NamedText, unended, string_member, array_text}
 use Rattle.jc_answers.specs.Refusals.{refused_object, refusal_members}
 use Rattle.jc_looks.specs.declared.looks.Look.{Look}
 use Rattle.jc_looks.specs.declared.looks.Look.TheVariants as L
 
 -- ---- texts
-
--- a line of another command without its LF
-abbrev pub unended : List ℕ → List ℕ
-unended line = take (length line - 1) line
 
 abbrev pub view_text : List (List ℕ) → List ℕ → State → List ℕ
 view_text names name A = unended (view_line names name A)

@@ -5,7 +5,6 @@ ghost use Rattle.jc_answers.specs.Parts.{member_of};
 ghost use Rattle.jc_answers.specs.JsonTexts.{text_member, object_text};
 ghost use Rattle.jc_answers.specs.Refusals.{refused_object, refusal_members, refusal_answer};
 ghost use Rattle.jc_looks.specs.LookFaults.{RefusesBy, IsRefusedAt};
-ghost use Rattle.jc_looks.specs.Looks.{unended};
 
 use jc_answers::{Member, object_text, refused, refused_text};
 use jc_rules::Refusal;
@@ -55,15 +54,6 @@ impl LookFault {
             Err(_) => LookFault::Memory,
         }
     }
-}
-
-/// A line without its LF.
-pub fn unended(line: Vec<u8>) -> Vec<u8>
-    ensures { result.items ≡ unended line.items }
-{
-    let mut text = line;
-    text.pop();
-    text
 }
 
 /// The answer that refuses a text at an offset. Want of memory is no refusal.

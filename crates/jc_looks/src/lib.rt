@@ -7,7 +7,7 @@ mod looks;
 mod networks;
 mod values;
 
-pub use fault::{LookFault, flag, refused_at, refused_with, unended};
-pub use looks::{Look, shown};
+pub use fault::{LookFault, flag, refused_at, refused_with};
+pub use looks::{Look, shown, state_of, states};
 pub use networks::{first_network, given_network};
 pub use values::value_of;

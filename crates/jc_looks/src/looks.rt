@@ -10,12 +10,12 @@ ghost use Rattle.jc_answers.specs.JsonTexts.{array_text};
 ghost use Rattle.jc_looks.specs.LookFaults.{AnswersBy};
 ghost use Rattle.jc_looks.specs.Looks.{OfReplica, ShowsValue, ShowsLook, IsWithin, view_text, state_text, texts_from, viewed_text};
 
-use crate::fault::{LookFault, unended};
+use crate::fault::LookFault;
 use crate::values::value_of;
-use jc_answers::ArrayText;
+use jc_answers::{ArrayText, unended};
 use jc_cursor::Bound;
 use jc_dump::{bound_text, brief_replica, dump_replica};
-use jc_network::Net;
+use jc_network::{CompareFault, Net};
 use jc_syntax::Expr;
 use jc_view::{view_place, view_replica};
 use std::alloc::{AllocError, Global};
@@ -35,36 +35,45 @@ pub enum Look {
     Eval(u16, Expr),
 }
 
+/// The view of a replica that is there.
 fn view_of(alloc: Global, net: &Net, p: u16) -> Result<Vec<u8>, AllocError>
+    requires { p < length net.now.history.now.states }
     ensures { IfOk result (λ answer.
         (A : State) → slice_get net.now.history.now.states p ≡ Some A
         → answer.items ≡ view_text net.now.names (name_at net.now.names p) A) }
 {
     match view_replica(alloc, net, p) {
         Ok(line) => Ok(unended(line)),
-        Err(_) => Err(AllocError),
+        Err(CompareFault::Memory) => Err(AllocError),
+        Err(CompareFault::NoSuchReplica) => unreachable!(),
     }
 }
 
-fn state_of(alloc: Global, net: &Net, p: u16) -> Result<Vec<u8>, AllocError>
+/// The state of a replica that is there. Refused for want of memory alone.
+pub fn state_of(alloc: Global, net: &Net, p: u16) -> Result<Vec<u8>, AllocError>
+    requires { p < length net.now.history.now.states }
     ensures { IfOk result (λ answer.
         (A : State) → slice_get net.now.history.now.states p ≡ Some A
         → answer.items ≡ state_text net.now.names (name_at net.now.names p) A) }
 {
     match dump_replica(alloc, net, p) {
         Ok(line) => Ok(unended(line.into_bytes())),
-        Err(_) => Err(AllocError),
+        Err(CompareFault::Memory) => Err(AllocError),
+        Err(CompareFault::NoSuchReplica) => unreachable!(),
     }
 }
 
+/// The same without its tree.
 fn brief_of(alloc: Global, net: &Net, p: u16) -> Result<Vec<u8>, AllocError>
+    requires { p < length net.now.history.now.states }
     ensures { IfOk result (λ answer.
         (A : State) → slice_get net.now.history.now.states p ≡ Some A
         → answer.items ≡ brief_text net.now.names (name_at net.now.names p) A) }
 {
     match brief_replica(alloc, net, p) {
         Ok(text) => Ok(text.into_bytes()),
-        Err(_) => Err(AllocError),
+        Err(CompareFault::Memory) => Err(AllocError),
+        Err(CompareFault::NoSuchReplica) => unreachable!(),
     }
 }
 
@@ -82,8 +91,8 @@ fn views(alloc: Global, net: &Net) -> Result<Vec<u8>, AllocError>
     all.end()
 }
 
-/// The states of all replicas.
-fn states(alloc: Global, net: &Net) -> Result<Vec<u8>, AllocError>
+/// The states of all replicas. Refused for want of memory alone.
+pub fn states(alloc: Global, net: &Net) -> Result<Vec<u8>, AllocError>
     ensures { IfOk result (λ answer. answer.items
         ≡ array_text (texts_from state_text 0 net.now.names net.now.history.now.states)) }
 {
@@ -125,8 +134,9 @@ fn bound_answer(alloc: Global, net: &Net, bound: &Bound) -> Result<Vec<u8>, Allo
     Ok(text.into_bytes())
 }
 
-/// What is at a cursor, or else the value.
+/// What is at a cursor of a replica that is there, or else the value.
 fn viewed(alloc: Global, net: &Net, p: u16, bound: &Bound) -> Result<Vec<u8>, AllocError>
+    requires { p < length net.now.history.now.states }
     ensures { IfOk result (λ answer.
         (A : State) → slice_get net.now.history.now.states p ≡ Some A
         → answer.items ≡ viewed_text net.now.names (name_at net.now.names p) A (bound_of bound.now)) }
@@ -136,7 +146,8 @@ fn viewed(alloc: Global, net: &Net, p: u16, bound: &Bound) -> Result<Vec<u8>, Al
     };
     match view_place(alloc, net, p, cursor) {
         Ok(line) => Ok(unended(line)),
-        Err(_) => Err(AllocError),
+        Err(CompareFault::Memory) => Err(AllocError),
+        Err(CompareFault::NoSuchReplica) => unreachable!(),
     }
 }
 

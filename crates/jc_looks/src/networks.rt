@@ -6,7 +6,7 @@ ghost use Rattle.jc_scenario.specs.WellFormed.{IsWellFormedScenario};
 ghost use Rattle.jc_scenario.specs.Views.{scenario_view};
 ghost use Rattle.jc_network.specs.Given.{before_given, IsBeforeGiven};
 
-use jc_network::Net;
+use jc_network::{Net, StartFault};
 use jc_scenario::{Scenario, copy_names, copy_scripts};
 use std::alloc::{AllocError, Global};
 
@@ -33,8 +33,10 @@ pub fn given_network(alloc: Global, scenario: &Scenario, count: usize) -> Result
     ensures names { IfOk result (λ net. net.names ≡ (scenario_view scenario.now).names) }
 {
     let mut net = first_network(alloc, scenario)?;
-    if net.lead(&scenario.given[..count]).is_err() {
-        return Err(AllocError);
+    match net.lead(&scenario.given[..count]) {
+        Ok(()) => {}
+        Err(StartFault::Memory) => return Err(AllocError),
+        Err(StartFault::Given { .. }) => unreachable!(),
     }
     net.begin();
     Ok(net)

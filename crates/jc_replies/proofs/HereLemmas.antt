@@ -1,7 +1,8 @@
--- Of `AnswerOf`: what a request leads to tells its own position, and has an answer.
+-- Of `AnswerOf`: what a request leads to tells its own position and replicas, and has an answer.
 use Rattle.std.proofs.Common.{◌≡◌, ℕ, List, length, Option, Some, Result, Ok, Err, IfOk, refl, sym, subst}
 use Rattle.std.specs.List.{All}
 use Rattle.std.specs.Result.{MatchResult, IsOkAnd}
+use Rattle.std.proofs.lemmas.Option.{slice_get_within}
 use Rattle.jc_rules.specs.declared.operation.Event.{Event}
 use Rattle.jc_printer.specs.Canon.{AreNamed}
 use Rattle.jc_debug.specs.Invariant.{Seen, session_of}
@@ -48,9 +49,10 @@ here_by : (e : Seen) (answer : AnyReply) (reply : Reply) → IsReply e answer re
 here_by e (R.Went n) reply is h = subst (λ (r : Reply). StandsAt (length e.traces) r) is h
 here_by e (R.Stuck n s) reply (why, event, told, is) h = subst (λ (r : Reply). StandsAt (length e.traces) r) is h
 here_by e (R.Ran n end) reply (outcome, told, is) h = subst (λ (r : Reply). StandsAt (length e.traces) r) is h
+here_by e (R.StateOf p) reply (name, A, named, there, is) h = slice_get_within e.net.history.now.states p A there
 here_by e answer reply is h = tt
 
--- a reply's position is that of the debugger that answered
+-- a reply's position is that of the debugger that answered, and its replica is there
 pub here : (d e : Seen) (q : Request) (answer : AnyReply) → GivesReply d q e answer → IsHere e answer
 here d e q answer g = here_by e answer g.reply g.is_reply (stands (origin_in d) (session_of d) (session_of e) q g.reply g.replies)
 

@@ -14,9 +14,9 @@ use Rattle.jc_debug.specs.Invariant.{Seen}
 use Rattle.jc_debug.specs.Moves.{IsEnd}
 use Rattle.jc_session.proofs.AnswerOfLemmas.{of_all}
 use Rattle.jc_answers.specs.declared.objects.Member.{Member}
-use Rattle.jc_answers.specs.JsonTexts.{NamedText, number_member, string_member, text_member, object_text}
+use Rattle.jc_answers.specs.JsonTexts.{NamedText, unended, number_member, string_member, text_member, object_text}
 use Rattle.jc_answers.specs.Parts.{member_of, members_of}
-use Rattle.jc_replies.specs.ReplyTexts.{Background, without_lf, true_member, event_to, event_member, stuck_member, move_answer, ran_answer}
+use Rattle.jc_replies.specs.ReplyTexts.{Background, true_member, event_to, event_member, stuck_member, move_answer, ran_answer}
 use Rattle.jc_replies.specs.AnswerOf.{background_of}
 
 -- ---- events of positions
@@ -70,7 +70,7 @@ move_without_event B n at end more items is number written =
 pub stuck_told : (given : List Event) (d : Seen) (net : NetworkHistory) (s : Stuck) (n : ℕ) (line text : List ℕ) (end more : Member) (items : List ℕ)
     → net ≡ d.net
     → n ≡ length d.traces
-    → text ≡ without_lf line
+    → text ≡ unended line
     → ((why : Cause) → s ≡ stuck_for why s.event → line ≡ stuck_event_line net.names false (n + 1) net.history.now.states why s.event)
     → member_of end ≡ []
     → member_of more ≡ text_member (codes "stuck") text
@@ -84,7 +84,7 @@ stuck_told given d net s n line text end more items same at cut lined none told 
     let line_is : line ≡ stuck_event_line d.net.names false (length d.traces + 1) d.net.history.now.states why event =
     lined why here ∙ (λ i. stuck_event_line (same i).names false (at i + 1) (same i).history.now.states why (event_is i)) in
     let more_is : member_of more ≡ stuck_member (background_of given d) (length d.traces) why event =
-    told ∙ ap (text_member (codes "stuck")) (cut ∙ ap without_lf line_is) in
+    told ∙ ap (text_member (codes "stuck")) (cut ∙ ap unended line_is) in
     written ∙ (λ i. move_answer (background_of given d) (length d.traces) (none i) (more_is i))
 
 -- ---- runs

@@ -19,7 +19,8 @@ use Rattle.jc_session.specs.Reply.{Reply}
 use Rattle.jc_answers.specs.declared.objects.Member.{Member}
 use Rattle.jc_answers.specs.JsonTexts.{number_member, array_text}
 use Rattle.jc_answers.specs.Parts.{member_of}
-use Rattle.jc_replies.specs.ReplyTexts.{Background, stuck_member, move_answer, ran_answer, state_answer, state_answers, events_answer, IsAnswer}
+use Rattle.jc_looks.specs.Looks.{state_text, texts_from}
+use Rattle.jc_replies.specs.ReplyTexts.{Background, stuck_member, move_answer, ran_answer, events_answer, IsAnswer}
 use Rattle.jc_replies.specs.AnswerOf.{background_of}
 
 pub told : (B : Background) (text answer : List ℕ) (due reply : Reply) → IsAnswer B text due answer → reply ≡ due → IsAnswer B text reply answer
@@ -52,21 +53,21 @@ ran_told given d text n end items at h r (outcome, is, due) =
 
 pub states_told : (given : List Event) (d : Seen) (text : List ℕ) (net : NetworkHistory) (items : List ℕ)
     → net ≡ d.net
-    → items ≡ array_text (state_answers 0 net.names net.history.now.states)
+    → items ≡ array_text (texts_from state_text 0 net.names net.history.now.states)
     → (r : Reply) → IsReply d R.States r → IsAnswer (background_of given d) text r items
 states_told given d text net items same h r due =
     told (background_of given d) text items (Y.states d.net.history.now.states) r
-    (h ∙ ap (λ (c : NetworkHistory). array_text (state_answers 0 c.names c.history.now.states)) same) due
+    (h ∙ ap (λ (c : NetworkHistory). array_text (texts_from state_text 0 c.names c.history.now.states)) same) due
 
 pub state_told : (given : List Event) (d : Seen) (text : List ℕ) (net : NetworkHistory) (p : ℕ) (items : List ℕ)
     → net ≡ d.net
-    → ((C : State) → slice_get net.history.now.states p ≡ Some C → items ≡ state_answer net.names (name_at net.names p) C)
+    → ((C : State) → slice_get net.history.now.states p ≡ Some C → items ≡ state_text net.names (name_at net.names p) C)
     → (r : Reply) → IsReply d (R.StateOf p) r → IsAnswer (background_of given d) text r items
 state_told given d text net p items same h r (name, C, named, there, due) =
     let at = subst (λ (c : NetworkHistory). slice_get c.history.now.states p ≡ Some C) (sym same) there in
     let called : name_at d.net.names p ≡ name = ap (λ (o : Option (List ℕ)). unwrap_or o []) named in
     told (background_of given d) text items (Y.state_of name C) r
-    (h C at ∙ ap (λ (c : NetworkHistory). state_answer c.names (name_at c.names p) C) same ∙ ap (λ (x : List ℕ). state_answer d.net.names x C) called) due
+    (h C at ∙ ap (λ (c : NetworkHistory). state_text c.names (name_at c.names p) C) same ∙ ap (λ (x : List ℕ). state_text d.net.names x C) called) due
 
 pub enabled_answered : (given : List Event) (d : Seen) (text : List ℕ) (net : NetworkHistory) (items : List ℕ)
     → net ≡ d.net

@@ -1,11 +1,8 @@
--- Of `ReplyTexts`: lists of states, of events and of rules, and traces.
-use Rattle.std.proofs.Common.{◌≡◌, ℕ, zero, suc, ◌+◌, ◌<◌, ◌≤◌, List, [], ◌∷◌, ◌++◌, length, map, take, get_or, slice_get, Some, codes, sym, ap, subst, ◌∙◌, arith}
+-- Of `ReplyTexts`: lists of events and of rules, and traces.
+use Rattle.std.proofs.Common.{◌≡◌, ℕ, ◌+◌, ◌<◌, ◌≤◌, List, [], ◌∷◌, ◌++◌, length, map, take, get_or, codes, sym, ap, subst, ◌∙◌, arith}
 use Rattle.std.proofs.lemmas.List.{map_more, take_all}
-use Rattle.std.proofs.lemmas.Option.{slice_get-get_or}
 use Rattle.jc_rules.specs.declared.operation.Event.{Event}
 use Rattle.jc_rules.specs.declared.rule.Rule.{Rule}
-use Rattle.jc_rules.specs.ReplicaNames.{name_at}
-use Rattle.jc_rules.specs.State.{State, start}
 use Rattle.jc_network.specs.NetworkHistory.{NetworkHistory}
 use Rattle.jc_network.specs.Enabled.{AreEnabled, candidates}
 use Rattle.jc_debug.specs.DebuggerState.{MakesEvent}
@@ -18,7 +15,7 @@ use Rattle.jc_session.proofs.ChosenEventsLemmas.{one_enabled}
 use Rattle.jc_answers.specs.declared.arrays.ArrayText.{ArrayText}
 use Rattle.jc_answers.specs.JsonTexts.{object_text}
 use Rattle.jc_answers.specs.Parts.{HasItems}
-use Rattle.jc_replies.specs.ReplyTexts.{state_answer, state_answers, events_answer, true_member, trace_answer, IsAnswer}
+use Rattle.jc_replies.specs.ReplyTexts.{events_answer, true_member, trace_answer, IsAnswer}
 use Rattle.jc_replies.specs.AnswerOf.{background_of}
 
 -- ---- items
@@ -32,33 +29,6 @@ all_items f xs n a enough h = with_items a (map f (take n xs)) (map f xs) (ap (m
 pub more_items : {X : Type 0} (f : X → List ℕ) (xs : List X) (i : ℕ) (d : X) (a : ArrayText) (text : List ℕ) → i < length xs → text ≡ f (get_or xs i d) → HasItems a (map f (take i xs) ++ text ∷ []) → HasItems a (map f (take (i + 1) xs))
 more_items f xs i d a text lt is h =
     with_items a (map f (take i xs) ++ text ∷ []) (map f (take (i + 1) xs)) (ap (λ t. map f (take i xs) ++ t ∷ []) is ∙ sym (map_more f xs i d lt)) h
-
--- ---- states
-
-next_state : (names : List (List ℕ)) (n p : ℕ) (states : List State) (A : State) → slice_get states p ≡ Some A → state_answers n names (take (suc p) states) ≡ state_answers n names (take p states) ++ state_answer names (name_at names (n + p)) A ∷ []
-next_state names n p [] A e = let no : slice_get {X = State} [] p ≡ Some A = e in cc
-next_state names n zero (B ∷ states) A e =
-    let same : B ≡ A = cc in
-    let number : n ≡ n + 0 = omega arith in
-    λ i. state_answer names (name_at names (number i)) (same i) ∷ []
-next_state names n (suc p) (B ∷ states) A e =
-    let number : suc n + p ≡ n + suc p = omega arith in
-    ap (λ ts. state_answer names (name_at names n) B ∷ ts) (next_state names (suc n) p states A e ∙ ap (λ k. state_answers (suc n) names (take p states) ++ state_answer names (name_at names k) A ∷ []) number)
-
-states_more : (names : List (List ℕ)) (states : List State) (p : ℕ) (text : List ℕ) → p < length states → ((A : State) → slice_get states p ≡ Some A → text ≡ state_answer names (name_at names p) A) → state_answers 0 names (take p states) ++ text ∷ [] ≡ state_answers 0 names (take (p + 1) states)
-states_more names states p text lt h =
-    let there = slice_get-get_or states p (start []) lt in
-    let A = get_or states p (start []) in
-    let one : p + 1 ≡ suc p = omega arith in
-    let number : 0 + p ≡ p = omega arith in
-    ap (λ t. state_answers 0 names (take p states) ++ t ∷ []) (h A there) ∙ ap (λ k. state_answers 0 names (take p states) ++ state_answer names (name_at names k) A ∷ []) (sym number) ∙ sym (next_state names 0 p states A there) ∙ ap (λ m. state_answers 0 names (take m states)) (sym one)
-
-pub more_states : (names : List (List ℕ)) (states : List State) (p : ℕ) (a : ArrayText) (text : List ℕ) → p < length states → ((A : State) → slice_get states p ≡ Some A → text ≡ state_answer names (name_at names p) A) → HasItems a (state_answers 0 names (take p states) ++ text ∷ []) → HasItems a (state_answers 0 names (take (p + 1) states))
-more_states names states p a text lt is h =
-    with_items a (state_answers 0 names (take p states) ++ text ∷ []) (state_answers 0 names (take (p + 1) states)) (states_more names states p text lt is) h
-
-pub all_states : (names : List (List ℕ)) (states : List State) (n : ℕ) (a : ArrayText) → length states ≤ n → HasItems a (state_answers 0 names (take n states)) → HasItems a (state_answers 0 names states)
-all_states names states n a enough h = with_items a (state_answers 0 names (take n states)) (state_answers 0 names states) (ap (state_answers 0 names) (take_all n states enough)) h
 
 -- ---- events that aren't stuck
 

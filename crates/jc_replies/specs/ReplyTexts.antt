@@ -1,21 +1,20 @@
 -- The answers to a session's requests, by their replies: programs are given these where a session writes its texts.
-use Rattle.std.specs.Prelude.{◌≡◌, ℕ, zero, suc, ◌+◌, ◌-◌, List, [], ◌∷◌, ◌++◌, length, map, take, slice_get, Option, Some, None, true, false, codes, decimal}
+use Rattle.std.specs.Prelude.{◌≡◌, ℕ, zero, suc, ◌+◌, ◌-◌, List, [], ◌∷◌, ◌++◌, length, map, slice_get, Option, Some, None, true, false, codes, decimal}
 use Rattle.jc_rules.specs.declared.operation.Event.{Event}
 use Rattle.jc_rules.specs.declared.rule.Rule.{Rule}
 use Rattle.jc_rules.specs.Refused.{Cause}
-use Rattle.jc_rules.specs.ReplicaNames.{name_at}
 use Rattle.jc_rules.specs.RuleNames.{rule_name}
 use Rattle.jc_rules.specs.State.{State}
 use Rattle.jc_printer.specs.Canon.{canon_event, quoted}
-use Rattle.jc_dump.specs.Dump.{dump_line}
 use Rattle.jc_journal.specs.StuckLine.{stuck_event_line}
 use Rattle.jc_debug.specs.DebuggerState.{StuckEvent, RunOutcome, breaks, sticks, ends}
 use Rattle.jc_meaning.specs.declared.comparison.Comparison.{Comparison}
 use Rattle.jc_meaning.specs.declared.comparison.Comparison.TheVariants.{SameOps, DifferentOps}
 use Rattle.jc_session.specs.Reply as Y
 use Rattle.jc_session.specs.Reply.{Reply}
-use Rattle.jc_answers.specs.JsonTexts.{NamedText, number_member, string_member, text_member, array_text, object_text}
+use Rattle.jc_answers.specs.JsonTexts.{NamedText, unended, number_member, string_member, text_member, array_text, object_text}
 use Rattle.jc_answers.specs.Refusals.{refusal_answer, IsRefusedText}
+use Rattle.jc_looks.specs.Looks.{state_text, texts_from}
 
 -- What an answer shows beside the reply: the replicas' names, the given events, the schedule, and the states of the
 -- network at the session's position.
@@ -24,10 +23,6 @@ pub record Background : Type 0 where
   pub given : List Event
   pub schedule : List Event
   pub states : List State
-
--- a line of another command without its LF
-abbrev pub without_lf : List ℕ → List ℕ
-without_lf line = take (length line - 1) line
 
 abbrev pub true_member : List ℕ → List NamedText
 true_member name = text_member name (codes "true")
@@ -46,7 +41,7 @@ event_member names (Some event) = string_member (codes "event") (canon_event nam
 -- the journal's line of an event that is stuck behind a position
 abbrev pub stuck_member : Background → ℕ → Cause → Event → List NamedText
 stuck_member B n why event =
-    text_member (codes "stuck") (without_lf (stuck_event_line B.names false (n + 1) B.states why event))
+    text_member (codes "stuck") (unended (stuck_event_line B.names false (n + 1) B.states why event))
 
 -- ---- moves
 
@@ -70,14 +65,6 @@ abbrev pub position_answer : Background → ℕ → ℕ → List ℕ
 position_answer B n length = move_answer B n [] (number_member (codes "of") length)
 
 -- ---- what is shown
-
-abbrev pub state_answer : List (List ℕ) → List ℕ → State → List ℕ
-state_answer names name A = without_lf (dump_line names name A)
-
--- the replicas from number p on
-abbrev pub state_answers : ℕ → List (List ℕ) → List State → List (List ℕ)
-state_answers p names [] = []
-state_answers p names (A ∷ states) = state_answer names (name_at names p) A ∷ state_answers (suc p) names states
 
 abbrev pub event_texts : List (List ℕ) → List Event → List (List ℕ)
 event_texts names events = map (λ event. quoted (canon_event names event)) events
@@ -112,8 +99,8 @@ IsAnswer B text (Y.went n end) answer = answer ≡ went_answer B n end
 IsAnswer B text (Y.ran n end) answer = answer ≡ ran_answer B n end
 IsAnswer B text (Y.set k) answer = answer ≡ object_text (number_member (codes "set") k)
 IsAnswer B text (Y.cleared k) answer = answer ≡ object_text (number_member (codes "cleared") k)
-IsAnswer B text (Y.states all) answer = answer ≡ array_text (state_answers 0 B.names all)
-IsAnswer B text (Y.state_of name state) answer = answer ≡ state_answer B.names name state
+IsAnswer B text (Y.states all) answer = answer ≡ array_text (texts_from state_text 0 B.names all)
+IsAnswer B text (Y.state_of name state) answer = answer ≡ state_text B.names name state
 IsAnswer B text (Y.traced n event rows) answer = answer ≡ trace_answer B.names n event rows
 IsAnswer B text Y.at_start answer = answer ≡ object_text (true_member (codes "start"))
 IsAnswer B text (Y.enabled events) answer = answer ≡ events_answer B.names events

@@ -5,4 +5,6 @@ mod moves;
 mod replies;
 mod shown;
 
+pub use moves::position_with;
 pub use replies::{answer_of, answer_to};
+pub use shown::events_answer;

@@ -10,25 +10,16 @@ ghost use Rattle.jc_debug.specs.DebuggerState.{RunOutcome};
 ghost use Rattle.jc_debug.specs.Moves.{IsEnd};
 ghost use Rattle.jc_session.specs.AnswerOf.{AllNamed, IsNamedEnd};
 ghost use Rattle.jc_answers.specs.Parts.{member_of};
-ghost use Rattle.jc_replies.specs.ReplyTexts.{event_to, stuck_member, move_answer, ran_answer, without_lf};
+ghost use Rattle.jc_replies.specs.ReplyTexts.{event_to, stuck_member, move_answer, ran_answer};
 ghost use Rattle.jc_replies.specs.AnswerOf.{background_of};
 
-use jc_answers::{Member, object_text};
+use jc_answers::{Member, object_text, unended};
 use jc_debug::{Debugger, RunEnd};
 use jc_journal::stuck_line;
 use jc_network::Stuck;
 use jc_printer::print_event;
 use jc_rules::Event;
 use std::alloc::{AllocError, Global};
-
-/// A line without its LF.
-pub(crate) fn without_lf(line: Vec<u8>) -> Vec<u8>
-    ensures { result.items ≡ without_lf line.items }
-{
-    let mut text = line;
-    text.pop();
-    text
-}
 
 /// The event that leads to the debugger's position: at position 0 the last given one, if there is one.
 fn event_here(debugger: &Debugger, given: &[Event]) -> Option<Event>
@@ -42,8 +33,9 @@ fn event_here(debugger: &Debugger, given: &[Event]) -> Option<Event>
     }
 }
 
-/// The debugger's position with its event, and beside them how a run ended and what else is told.
-pub(crate) fn position_with<'a>(
+/// The debugger's position with its event, and beside them how a run ended and what else is told. Refused for want of
+/// memory alone.
+pub fn position_with<'a>(
     alloc: Global,
     debugger: &Debugger,
     given: &[Event],
@@ -87,7 +79,7 @@ pub(crate) fn stuck_here(
         [] (stuck_member (background_of given.now debugger.now) (length debugger.now.traces) why event)) }
 {
     let line = stuck_line(alloc, debugger.net(), debugger.position() + 1, false, stuck)?;
-    let text = without_lf(line);
+    let text = unended(line);
     let line = Member::text("stuck", text.as_slice());
     position_with(alloc, debugger, given, Member::absent(), line)
 }

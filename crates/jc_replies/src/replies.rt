@@ -11,9 +11,10 @@ ghost use Rattle.jc_replies.specs.ReplyTexts.{IsAnswer};
 ghost use Rattle.jc_replies.specs.AnswerOf.{background_of, IsHere, event_text, GivesServed};
 
 use crate::moves::{position_with, ran, stuck_here};
-use crate::shown::{compared, enabled, events, state_of, states, trace};
+use crate::shown::{compared, enabled, events_answer, trace};
 use jc_answers::{Member, object_text, refused, refused_text};
 use jc_debug::Debugger;
+use jc_looks::{state_of, states};
 use jc_rules::Event;
 use jc_session::{Reply, Request, reply_to};
 use std::alloc::{AllocError, Global};
@@ -58,7 +59,7 @@ pub fn answer_of(
         Reply::StateOf(p) => state_of(alloc, net, *p),
         Reply::Trace => trace(alloc, debugger),
         Reply::Enabled => enabled(alloc, net),
-        Reply::Schedule => events(alloc, net.names(), debugger.schedule()),
+        Reply::Schedule => events_answer(alloc, net.names(), debugger.schedule()),
         Reply::Position => {
             let of = Member::number("of", debugger.schedule().len() as u64);
             position_with(alloc, debugger, given, Member::absent(), of)

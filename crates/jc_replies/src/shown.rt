@@ -1,56 +1,25 @@
-//! The answers that show something of the debugger: states, events, a trace.
+//! The answers that show something of the debugger: events, a trace, a comparison.
 
-ghost use Rattle.std.specs.Prelude.{◌≡◌, ℕ, List, [], ◌∷◌, ◌++◌, IfOk, OnOk, All, length, slice_get, Some, map};
+ghost use Rattle.std.specs.Prelude.{◌≡◌, ℕ, List, [], ◌∷◌, ◌++◌, IfOk, OnOk, All, length, map};
 ghost use Rattle.jc_rules.specs.declared.operation.Event.{Event as AnyEvent};
 ghost use Rattle.jc_rules.specs.declared.rule.Rule.{Rule as AnyRule};
-ghost use Rattle.jc_rules.specs.ReplicaNames.{name_at};
-ghost use Rattle.jc_rules.specs.State.{State};
 ghost use Rattle.jc_printer.specs.Canon.{AreNamed, canon_event, quoted};
 ghost use Rattle.jc_network.specs.Enabled.{AreEnabled, candidates};
 ghost use Rattle.jc_session.specs.AnswerOf.{AllNamed, IsTraceReply};
 ghost use Rattle.jc_session.specs.Reply.{Reply as AnyReply};
 ghost use Rattle.jc_answers.specs.JsonTexts.{array_text};
 ghost use Rattle.jc_answers.specs.Parts.{HasItems};
-ghost use Rattle.jc_replies.specs.ReplyTexts.{state_answer, state_answers, events_answer, row_text, trace_answer, compared_answer, IsAnswer};
+ghost use Rattle.jc_replies.specs.ReplyTexts.{events_answer, row_text, trace_answer, compared_answer, IsAnswer};
 ghost use Rattle.jc_replies.specs.AnswerOf.{background_of};
 
-use crate::moves::without_lf;
 use jc_answers::{ArrayText, Member, object_text};
 use jc_debug::Debugger;
-use jc_dump::dump_replica;
+use jc_looks::flag;
 use jc_meaning::Comparison;
 use jc_network::Net;
 use jc_printer::print_event;
 use jc_rules::{Event, Rule, Text};
 use std::alloc::{AllocError, Global};
-
-// ---- states
-
-/// The dump line of a replica of the network, without its LF.
-pub(crate) fn state_of(alloc: Global, net: &Net, p: u16) -> Result<Vec<u8>, AllocError>
-    ensures { IfOk result (λ answer.
-        (A : State) → slice_get net.now.history.now.states p ≡ Some A
-        → answer.items ≡ state_answer net.now.names (name_at net.now.names p) A) }
-{
-    match dump_replica(alloc, net, p) {
-        Ok(dump) => Ok(without_lf(dump.into_bytes())),
-        Err(_) => Err(AllocError),
-    }
-}
-
-/// The dump line of each replica of the network.
-pub(crate) fn states(alloc: Global, net: &Net) -> Result<Vec<u8>, AllocError>
-    ensures { IfOk result (λ answer. answer.items
-        ≡ array_text (state_answers 0 net.now.names net.now.history.now.states)) }
-{
-    let mut list = ArrayText::new(alloc)?;
-    let count = net.names().len() as u16;
-    for p in 0..count {
-        let state = state_of(alloc, net, p)?;
-        list.push(state.as_slice())?;
-    }
-    list.end()
-}
 
 // ---- events
 
@@ -70,8 +39,12 @@ fn push_event(
     list.push_string(text.as_str())
 }
 
-/// The texts of events.
-pub(crate) fn events(alloc: Global, names: &[Text], events: &[Event]) -> Result<Vec<u8>, AllocError>
+/// A list of the texts of events. Refused for want of memory alone.
+pub fn events_answer(
+    alloc: Global,
+    names: &[Text],
+    events: &[Event],
+) -> Result<Vec<u8>, AllocError>
     requires { All (λ e. AreNamed e (length names.now)) events.now }
     ensures { IfOk result (λ answer. answer.items ≡ events_answer names.now events.now) }
 {
@@ -92,7 +65,7 @@ pub(crate) fn enabled(alloc: Global, net: &Net) -> Result<Vec<u8>, AllocError>
     // of the network.
     net.steps();
     let enabled = net.enabled()?;
-    events(alloc, net.names(), &enabled)
+    events_answer(alloc, net.names(), &enabled)
 }
 
 // ---- traces
@@ -150,7 +123,7 @@ pub(crate) fn trace(alloc: Global, debugger: &Debugger) -> Result<Vec<u8>, Alloc
         → IsAnswer (background_of given debugger.now) text r answer.items) }
 {
     let Some(rows) = debugger.trace() else {
-        return object_text(alloc, &[Member::text("start", b"true".as_slice())]);
+        return flag(alloc, "start");
     };
     let n = debugger.position();
     let event = &debugger.schedule()[n as usize - 1];

@@ -16,7 +16,7 @@ use Rattle.jc_network.specs.NetworkHistory.{NetworkHistory}
 use Rattle.jc_looks.specs.declared.fault.LookFault.{LookFault}
 use Rattle.jc_looks.specs.declared.fault.LookFault.TheVariants as F
 use Rattle.jc_looks.specs.LookFaults.{RefusesBy}
-use Rattle.jc_looks.specs.Looks.{unended}
+use Rattle.jc_answers.specs.JsonTexts.{unended}
 use Rattle.jc_debug.specs.DebuggerState.{IsNetworkAt}
 use Rattle.jc_debug.specs.Invariant.{Seen, IsDebugger, IsMoved, start_of}
 use Rattle.jc_debug.proofs.InvariantLemmas.{is_at, trace_of}

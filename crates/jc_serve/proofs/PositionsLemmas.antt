@@ -1,16 +1,14 @@
 -- Of `Positions`: where the given events and those of a schedule lead together.
 use Rattle.std.proofs.Common.{◌≡◌, ℕ, zero, suc, ◌+◌, ◌-◌, ◌<◌, ◌≤◌, List, [], ◌∷◌, ◌++◌, length, take, slice_get, Option, Some, refl, sym, ap, subst, ◌∙◌, arith, length-append}
-use Rattle.std.proofs.lemmas.List.{take-append-le}
+use Rattle.std.proofs.lemmas.List.{take-append-le, take-take}
 use Rattle.std.proofs.Math.Seq.{take-append-add}
 use Rattle.jc_rules.specs.declared.operation.Event.{Event}
-use Rattle.jc_rules.specs.declared.rule.Rule.{Rule}
 use Rattle.jc_rules.specs.Refused.{Cause}
 use Rattle.jc_rules.specs.Step.{Network, AfterIn}
 use Rattle.jc_scenario.specs.WellFormed.{Scenario}
 use Rattle.jc_network.specs.Given.{before_given, IsStart}
 use Rattle.jc_network.proofs.AfterLemmas.{after_more}
-use Rattle.jc_debug.specs.DebuggerState.{IsNetworkAt, MakesEvent, IsStuckAt}
-use Rattle.jc_debug.proofs.LawsLemmas.{cut, none_makes}
+use Rattle.jc_debug.specs.DebuggerState.{IsNetworkAt, IsStuckAt}
 use Rattle.jc_listings.specs.Positions.{all_events, IsAt, StopsAt}
 
 -- ---- lists
@@ -35,9 +33,6 @@ after_first N [] M (suc n) h = (N, refl)
 after_first N (e ∷ es) M (suc n) h = let r = after_first h.0 es M n h.3 in (r.0, (h.0, h.1, h.2, r.1))
 
 module _ (s : Scenario) (events : List Event) where
-  as_network_at : (n : ℕ) (N : Network) → IsAt s events n N → IsNetworkAt (before_given s) (all_events s events) n N
-  as_network_at n N h = record { within = h.within; after = h.after }
-
   -- the schedule's network behind the given events
   pub at_schedule : (S : Network) (n : ℕ) (N : Network) → IsStart s S → IsNetworkAt S events n N → IsAt s events (length s.given + n) N
   at_schedule S n N starts h =
@@ -68,23 +63,9 @@ module _ (s : Scenario) (events : List Event) where
         r.0,
         record {
           within = omega (arith, within, low);
-          after = subst (λ (es : List Event). AfterIn (before_given s) es r.0) (take_take (all_events s events) n m low) r.1;
+          after = subst (λ (es : List Event). AfterIn (before_given s) es r.0) (take-take m n (all_events s events) low) r.1;
         },
       )
-    where
-      take_take : (xs : List Event) (n m : ℕ) → m ≤ n → take m (take n xs) ≡ take m xs
-      take_take xs n zero le = refl
-      take_take [] zero (suc m) le = refl
-      take_take [] (suc n) (suc m) le = refl
-      take_take (x ∷ xs) zero (suc m) le = absurd (omega (arith, le))
-      take_take (x ∷ xs) (suc n) (suc m) le = ap (λ ys. x ∷ ys) (take_take xs n m (omega (arith, le)))
-
-  -- behind an event that is stuck there is nothing
-  pub not_behind : (stop : ℕ) (K : Network) (e : Event) (why : Cause) (n : ℕ) (N : Network) → StopsAt s events stop K e why → stop < n → IsAt s events n N → ⊥
-  not_behind stop K e why n N stops lt h =
-      let r = cut (before_given s) (all_events s events) stop n N lt h.within h.after in
-      none_makes (before_given s) (all_events s events) stop r.0 e r.1 why r.2
-      (record { before = K; is_at = as_network_at stop K stops.is_at; is = stops.is; stuck = stops.stuck })
 
   -- an event of the schedule is stuck behind the given ones
   pub stops_at : (S : Network) (n : ℕ) (e : Event) (why : Cause) → IsStart s S → (h : IsStuckAt S events n e why) → StopsAt s events (length s.given + n) h.before e why

@@ -1,5 +1,5 @@
 -- Of `Serving`, `Stopped` and `Progress`: one request more, and the ends.
-use Rattle.std.proofs.Common.{◌≡◌, ◌↔◌, Result, Ok, Err, OnOk, IfSome, IsErrOf, IsErrAnd, Bool, true, false, not, IsTrue, ℕ, zero, suc, ◌+◌, ◌-◌, ◌<◌, ◌≤◌, List, [], ◌∷◌, ◌++◌, length, Option, None, Some, ◌⊎◌, inl, inr, refl, ap, sym, subst, ◌∙◌, arith, append_assoc, append-nil, Vec, Global}
+use Rattle.std.proofs.Common.{◌≡◌, ◌↔◌, Result, Ok, Err, OnOk, IfSome, IsErrOf, IsErrAnd, Bool, true, false, not, IsTrue, ℕ, zero, suc, ◌+◌, ◌-◌, ◌<◌, ◌≤◌, List, [], ◌∷◌, ◌++◌, length, Option, None, Some, ◌⊎◌, inl, inr, refl, ap, sym, subst, ◌∙◌, arith, append_assoc, append-nil, length-append, Vec, Global}
 use Rattle.std.specs.Io.KnownBytes.{Consumes, IsAtEnd, prepend_known}
 use Rattle.std.proofs.lemmas.Option.{same_Some}
 use Rattle.std.proofs.KnownBytes.{Appends-nil, Appends-trans, prepend_known-nil}
@@ -7,6 +7,7 @@ use Rattle.jc_io.specs.declared.io.ReadFault.{ReadFault}
 use Rattle.jc_io.specs.declared.io.ReadFault.TheVariants as R
 use Rattle.jc_io.specs.Written.{Stream, Wrote, Interrupted, Written}
 use Rattle.jc_io.proofs.WrittenLemmas.{one_failure}
+use Rattle.jc_rules.specs.declared.limits.TheConstants.{MAX_LINE}
 use Rattle.jc_rules.specs.declared.refusal.Refusal.TheVariants.{BadLine}
 use Rattle.jc_session.specs.LineReading.{ReadStopsAt}
 use Rattle.jc_session.specs.Lines.{Line}
@@ -18,7 +19,7 @@ use Rattle.jc_requests.specs.declared.turn.Turn.{Turn as AnyTurn}
 use Rattle.jc_requests.specs.declared.turn.Turn.TheVariants as T
 use Rattle.jc_requests.specs.InputViews.{turn_of}
 use Rattle.jc_requests.specs.Input as I
-use Rattle.jc_requests.specs.Input.{Turn, says, brings, IsTurn, IsPart, IsCutShort, InputEnd, finished, cut_short, too_many, AreTurns, AreDue}
+use Rattle.jc_requests.specs.Input.{Turn, says, brings, IsTurn, IsPart, IsTextPart, IsCutShort, InputEnd, finished, cut_short, too_many, AreTurns, AreDue}
 use Rattle.jc_serve.specs.declared.serving.Held.{Held as AnyHeld}
 use Rattle.jc_serve.specs.declared.serving.ServeFault.{ServeFault}
 use Rattle.jc_serve.specs.declared.serving.ServeFault.TheVariants as F
@@ -28,7 +29,8 @@ use Rattle.jc_serve.specs.Answers.{AnswersAbout}
 use Rattle.jc_serve.specs.Subjects.{Subject, IsSubject, IsCounts}
 use Rattle.jc_serve.specs.Serving as V
 use Rattle.jc_serve.specs.Serving.{Held, IsFirst, AnswersTurn, AnswersTurns, IsQuit, HasNoQuit, BeginWith, AreFirst, AreAll, Serves, all, up_to_quit}
-use Rattle.jc_serve.specs.Stopped.{AnsweredFirst, StoppedAtRead, StoppedWhole, StoppedInside}
+use Rattle.jc_serve.specs.Stopped as P
+use Rattle.jc_serve.specs.Stopped.{AnsweredFirst, StoppedAtRead, StoppedWhole, StoppedInside, IsAtLimit, LeftBehind, LeftPast}
 use Rattle.jc_serve.specs.Progress.{fault_of_read, IsHeldAs, IsHeld, LeadsOn, GoesOut, AreRead, SoFar}
 
 -- ---- one request more
@@ -91,6 +93,12 @@ read_more (Some bytes) (Some xs) (Some ys) turns turn read bytes_left turns_left
       (r.0 (turn ∷ more) end (turns_behind bytes_left turns_left less fewer xs ys read turn more end is gone size count h)),
   λ more behind h. subst (λ (ts : List Turn). BeginWith MAX_INPUT MAX_REQUESTS bytes ts behind) (sym (append_assoc turns (turn ∷ []) more))
       (r.1 (turn ∷ more) behind (begin_behind bytes_left turns_left less fewer xs ys read turn more behind is gone size count h)),
+  let parts : length xs ≡ length read + length ys = ap length gone ∙ length-append read ys in
+      let before = r.2 in
+      omega (arith, parts, before, size),
+  let longer = length-append turns (turn ∷ []) in
+      let before = r.3 in
+      omega (arith, longer, before, count),
 )
 
 -- what was read so far is what comes first
@@ -116,7 +124,7 @@ begun input held out H first is = record {
   where
     none_read : (input : Option (List ℕ)) → AreRead input [] input MAX_INPUT MAX_REQUESTS
     none_read None = tt
-    none_read (Some bytes) = (λ more end h. h, λ more behind h. h)
+    none_read (Some bytes) = (λ more end h. h, λ more behind h. h, refl, omega arith)
 
 -- A request that was read, and how many bytes and requests may be read behind it.
 pub record IsNext (rest next : Option (List ℕ)) (bytes_left turns_left less fewer : ℕ) (turn : Turn) : Type 0 where
@@ -264,21 +272,73 @@ at_read input rest left b t held old now part s is stops = record {
   went = s.went;
 }
 
-pub whole : (input rest : Option (List ℕ)) (b t : ℕ) (held : AnyHeld) (old now : Stream) → SoFar input rest b t held old now → StoppedWhole input old now
-whole input rest b t held old now s = record {
-  rest = rest;
-  last = s.last;
-  text = s.text;
-  answered = answered_first input rest b t held old now s;
-  went = s.went;
-}
+-- what was read ahead is gone
+left_behind : (ahead : List ℕ) (left : Option (List ℕ)) → length ahead < MAX_LINE → LeftBehind (prepend_known ahead left) left
+left_behind ahead left few = record { ahead = ahead; few = few; gone = gone left }
+  where
+    gone : (left : Option (List ℕ)) → Consumes (prepend_known ahead left) left ahead
+    gone None = tt
+    gone (Some ys) = refl
 
-pub inside : (input rest next : Option (List ℕ)) (b t less fewer : ℕ) (held then_held : AnyHeld) (old now new : Stream) (turn : Turn)
+module _ (input rest : Option (List ℕ)) (ahead : List ℕ) (left : Option (List ℕ)) (few : length ahead < MAX_LINE) (b t : ℕ) (held : AnyHeld) (old now : Stream) (s : SoFar input rest b t held old now) where
+  -- there was no memory for the text of the next request
+  pub in_text : (part : List ℕ) → IsTextPart part → Consumes rest (prepend_known ahead left) part → StoppedWhole input left old now
+  in_text part is gone = record {
+    rest = rest;
+    last = s.last;
+    text = s.text;
+    answered = answered_first input rest b t held old now s;
+    behind = prepend_known ahead left;
+    next = P.in_text part is gone;
+    is_left = left_behind ahead left few;
+    went = s.went;
+  }
+
+  -- there was none for its answer
+  pub unanswered : (less fewer : ℕ) (turn : Turn) → IsNext rest (prepend_known ahead left) b t less fewer turn → StoppedWhole input left old now
+  unanswered less fewer turn n =
+      let next = prepend_known ahead left in
+      let read = read_more input rest next s.turns turn n.read b t less fewer s.are_read n.is_turn n.gone n.size n.count in
+      record {
+        rest = rest;
+        last = s.last;
+        text = s.text;
+        answered = answered_first input rest b t held old now s;
+        behind = next;
+        next = P.whole turn (first_of input next (s.turns ++ turn ∷ []) less fewer read);
+        is_left = left_behind ahead left few;
+        went = s.went;
+      }
+
+  -- a byte past the limits was read
+  pub left_past : (part : List ℕ) (c : ℕ) → IsPart part → Consumes rest (prepend_known ahead left) (part ++ c ∷ []) → ((length part ≡ b) × (0 < t)) ⊎ ((t ≡ 0) × (part ≡ [])) → LeftPast input left
+  left_past part c is gone limit = record {
+    turns = s.turns;
+    rest = rest;
+    are_first = first_of input rest s.turns b t s.are_read;
+    part = part;
+    is_part = is;
+    at_limit = at_limit input rest s.turns s.are_read limit;
+    byte = c;
+    behind = prepend_known ahead left;
+    gone = gone;
+    is_left = left_behind ahead left few;
+  }
+    where
+      at_limit : (input rest : Option (List ℕ)) (turns : List Turn) → AreRead input turns rest b t → ((length part ≡ b) × (0 < t)) ⊎ ((t ≡ 0) × (part ≡ [])) → IsAtLimit input turns rest part
+      at_limit None rest turns r limit = tt
+      at_limit (Some bytes) None turns r limit = absurd r
+      at_limit (Some bytes) (Some xs) turns r (inl (full, some)) = let count = r.2 in inl (omega (arith, full, count))
+      at_limit (Some bytes) (Some xs) turns r (inr (none, empty)) = let count = r.3 in inr (omega (arith, none, count), empty)
+
+pub inside : (input rest : Option (List ℕ)) (ahead : List ℕ) (left : Option (List ℕ)) (b t less fewer : ℕ) (held then_held : AnyHeld) (old now new : Stream) (turn : Turn)
+    → length ahead < MAX_LINE
     → SoFar input rest b t held old now
-    → IsNext rest next b t less fewer turn
+    → IsNext rest (prepend_known ahead left) b t less fewer turn
     → GoesOut Interrupted held turn then_held now new
-    → StoppedInside input old new
-inside input rest next b t less fewer held then_held old now new turn s n (answer, leads, broke) =
+    → StoppedInside input left old new
+inside input rest ahead left b t less fewer held then_held old now new turn few s n (answer, leads, broke) =
+    let next = prepend_known ahead left in
     let l = leads s.last s.is_last in
     let read = read_more input rest next s.turns turn n.read b t less fewer s.are_read n.is_turn n.gone n.size n.count in
     record {
@@ -289,6 +349,7 @@ inside input rest next b t less fewer held then_held old now new turn s n (answe
       turn = turn;
       behind = next;
       are_first = first_of input next (s.turns ++ turn ∷ []) less fewer read;
+      is_left = left_behind ahead left few;
       then_held = l.0;
       answer = answer;
       answers = l.1;
@@ -414,3 +475,9 @@ pub read_failed : {T U : Type 0} (r : Result T ServeFault) (f : ReadFault) → I
 read_failed (Ok v) f h k = absurd h
 read_failed (Err e) R.Failed h k = refl
 read_failed (Err e) R.Memory h k = let same : e ≡ F.ReadFailed = cc in cc
+
+-- a reading without memory
+pub read_starved : {T U : Type 0} (r : Result T ServeFault) (f : ReadFault) → IsErrAnd r (λ e. e ≡ fault_of_read f) → IsErrOf r F.Memory → IsErrOf {T = U} (Err f) R.Memory
+read_starved (Ok v) f h k = absurd h
+read_starved (Err e) R.Memory h k = refl
+read_starved (Err e) R.Failed h k = let same : e ≡ F.Memory = cc in cc

@@ -29,6 +29,7 @@ use Rattle.jc_looks.specs.LookFaults.{RefusesBy, IsRefusedAt}
 use Rattle.jc_listings.specs.declared.journals.Details.{Details}
 use Rattle.jc_listings.specs.Journals.{AnswersJournal, AnswersEvent}
 use Rattle.jc_listings.specs.Positions.{count_of, IsAt}
+use Rattle.jc_listings.proofs.JournalPartsLemmas.{not_behind}
 use Rattle.jc_serve.specs.declared.stuck.GivenStop.{GivenStop as AnyGivenStop}
 use Rattle.jc_serve.specs.Answers as A
 use Rattle.jc_serve.specs.Answers.{position_in, IsOfText, IsReached, IsNowhere, IsBadRequest, IsGoodRequest, AnswersStuck}
@@ -36,7 +37,6 @@ use Rattle.jc_serve.specs.Asking.{IsLookRequest, IsBadLook, AsksLook, IsOneOrEac
 use Rattle.jc_serve.specs.AnswerOf as O
 use Rattle.jc_serve.specs.AnswerOf.{IsStopped, IsOfStop, IsReachedBy, IsUnreached, IsStopLook, ShowsAt, IsPlain, AnswersStop}
 use Rattle.jc_serve.specs.Subjects.{GivenStop, given_stuck_answer}
-use Rattle.jc_serve.proofs.PositionsLemmas.{not_behind}
 use Rattle.jc_serve.proofs.StopLemmas.{led_before}
 
 -- ---- requests that are neither about the text nor about a position

@@ -22,7 +22,8 @@ use Rattle.jc_looks.specs.declared.fault.LookFault.{LookFault}
 use Rattle.jc_looks.specs.declared.fault.LookFault.TheVariants as F
 use Rattle.jc_looks.specs.declared.looks.Look.{Look}
 use Rattle.jc_looks.specs.LookFaults.{RefusesBy}
-use Rattle.jc_looks.specs.Looks.{unended, ShowsLook}
+use Rattle.jc_answers.specs.JsonTexts.{unended}
+use Rattle.jc_looks.specs.Looks.{ShowsLook}
 use Rattle.jc_listings.specs.declared.journals.Details.{Details}
 use Rattle.jc_listings.specs.Journals.{AnswersEvent, IsLineBehind, first, tells}
 use Rattle.jc_listings.specs.Positions.{all_events, number_behind, count_of, IsAt}

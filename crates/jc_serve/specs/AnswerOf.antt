@@ -123,6 +123,17 @@ abbrev pub IsWithinLimit : Asked → Type 0
 IsWithinLimit (K.weave seed limit) = limit ≤ MAX_EVENTS
 IsWithinLimit request = Unit {0}
 
+-- a request about the scenario as a whole, or about breakpoints, which a session doesn't have
+abbrev pub IsOfWhole : Asked → Type 0
+IsOfWhole K.places = Unit {0}
+IsOfWhole K.print = Unit {0}
+IsOfWhole K.back_run = Unit {0}
+IsOfWhole (K.break_op counter name) = Unit {0}
+IsOfWhole (K.break_place name expression) = Unit {0}
+IsOfWhole K.breaks = Unit {0}
+IsOfWhole (K.weave seed limit) = Unit {0}
+IsOfWhole request = ⊥
+
 -- a refusal is an answer too
 abbrev pub answer_in : Result (Vec ℕ Global) LookFault → Result (Vec ℕ Global) AllocError
 answer_in (Ok answer) = Ok answer

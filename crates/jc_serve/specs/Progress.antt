@@ -1,5 +1,5 @@
 -- What the loop of `serve` keeps, and what one request comes to in memory: the contracts of private functions cite it.
-use Rattle.std.specs.Prelude.{◌≡◌, ℕ, List, [], ◌∷◌, ◌++◌, Option, Some, None}
+use Rattle.std.specs.Prelude.{◌≡◌, ℕ, ◌+◌, List, [], ◌∷◌, ◌++◌, length, Option, Some, None}
 use Rattle.jc_io.specs.declared.io.ReadFault.{ReadFault}
 use Rattle.jc_io.specs.declared.io.ReadFault.TheVariants as R
 use Rattle.jc_io.specs.Written.{Stream, Wrote}
@@ -54,6 +54,8 @@ AreRead (Some bytes) turns (Some rest) bytes_left turns_left =
     × ((more : List Turn) (behind : List ℕ)
     → BeginWith bytes_left turns_left rest more behind
     → BeginWith MAX_INPUT MAX_REQUESTS bytes (turns ++ more) behind)
+    × (bytes_left + length bytes ≡ MAX_INPUT + length rest)
+    × (turns_left + length turns ≡ MAX_REQUESTS)
 
 -- Requests of an input were read and answered, none of which ends it, and the last of them left this text in memory.
 pub record SoFar (input rest : Option (List ℕ)) (bytes_left turns_left : ℕ) (held : AnyHeld) (old new : Stream)

@@ -1,6 +1,6 @@
 //! The answers to requests.
 
-ghost use Rattle.std.specs.Prelude.{◌≡◌, ◌↔◌, ◌+◌, ◌<◌, ◌≤◌, ℕ, suc, List, Option, Some, Ok, length, IsTrue, IfOk};
+ghost use Rattle.std.specs.Prelude.{◌≡◌, ◌↔◌, ◌+◌, ◌<◌, ◌≤◌, ℕ, suc, List, Option, Some, None, Ok, length, IsTrue, IfOk};
 ghost use Rattle.jc_rules.specs.declared.rule.Rule.{Rule as AnyRule};
 ghost use Rattle.jc_rules.specs.declared.version.Version.TheVariants.{Two};
 ghost use Rattle.jc_rules.specs.Step.{Network as AnyNetwork, StepIn};
@@ -15,6 +15,7 @@ ghost use Rattle.jc_session.specs.Requests as Q;
 ghost use Rattle.jc_session.specs.Views.{request_view};
 ghost use Rattle.jc_requests.specs.Asked as K;
 ghost use Rattle.jc_requests.specs.Asked.{Position as AnyPosition};
+ghost use Rattle.jc_requests.specs.Input.{size_of};
 ghost use Rattle.jc_requests.specs.Views.{position_view, at_view, between_view, asked_view};
 ghost use Rattle.jc_answers.specs.JsonTexts.{array_text};
 ghost use Rattle.jc_looks.specs.LookFaults.{Finds, AnswersBy};
@@ -24,22 +25,22 @@ ghost use Rattle.jc_journal.specs.EventLine.{AreEffects};
 ghost use Rattle.jc_journal.specs.Parts.{rows_of, differences_in};
 ghost use Rattle.jc_listings.specs.Journals.{AnswersEvent, AnswersJournal, rules_asked};
 ghost use Rattle.jc_listings.specs.Positions.{count_at};
-ghost use Rattle.jc_serve.specs.Asking.{LooksAt};
+ghost use Rattle.jc_serve.specs.Asking.{IsLookRequest, LooksAt};
 ghost use Rattle.jc_serve.specs.Answers.{IsNoRule, IsOwn, mark_answers, AnswersRefused};
 ghost use Rattle.jc_choice.specs.Laws.{with_schedule};
-ghost use Rattle.jc_serve.specs.AnswerOf.{IsAct, IsLineHere, IsWithinLimit, IsInService, LeadsTo, ShowsIn, ShowsBy, ShowsAt, AnswersNowhere, IsHeldFor, AnswersOn};
+ghost use Rattle.jc_serve.specs.AnswerOf.{IsAct, IsLineHere, IsWithinLimit, IsOfWhole, IsInService, LeadsTo, ShowsIn, ShowsBy, ShowsAt, AnswersNowhere, IsHeldFor, AnswersOn};
 ghost use Rattle.jc_serve.specs.InMemory.{IsServing, IsBehind};
 
 use crate::asking::look_of;
 use crate::served::{Served, told_marks};
 use crate::subjects::{Subject, fault_answer};
-use crate::texts::{answered, counted, journal, quit_answer, quoted, stopped};
-use jc_answers::refused;
+use crate::texts::{answered, counted, journal, quit_answer, stopped};
+use jc_answers::{quoted, refused, unended};
 use jc_debug::GotoFault;
 use jc_effects::Effects;
 use jc_journal::{Before, NumberedEvent, event_effects, event_line};
 use jc_listings::{Details, line_behind, places, woven_answer};
-use jc_looks::{Look, LookFault, flag, given_network, shown, unended};
+use jc_looks::{Look, LookFault, flag, given_network, shown};
 use jc_replies::answer_to;
 use jc_requests::{Asked, Position};
 use jc_rules::{Event, Refusal, Rule, Version};
@@ -182,6 +183,7 @@ impl Served {
     /// What a look is answered at a position of the schedule.
     fn look_aside(&mut self, alloc: Global, n: u64, look: &Look) -> Result<Vec<u8>, LookFault>
         requires held { IsInService self.old }
+        requires there { n ≤ length self.old.here.schedule }
         requires within { IsWithin (length self.old.scenario.names.items) look.now }
         ensures { AnswersBy (ShowsIn (λ s A answer. (at : Option AnyPosition)
             → count_at s A.schedule A.position at ≡ Ok (length s.given + n)
@@ -193,7 +195,8 @@ impl Served {
                 let given = self.scenario.given.as_slice();
                 Ok(stopped(alloc, &self.aside, given, stuck)?)
             }
-            Err(_) => Err(LookFault::Memory),
+            Err(GotoFault::Memory) => Err(LookFault::Memory),
+            Err(GotoFault::PastSchedule) => unreachable!(),
         }
     }
 
@@ -295,6 +298,7 @@ impl Served {
     fn line_at(&mut self, alloc: Global, details: Details, n: u64) -> Result<Vec<u8>, AllocError>
         requires held { IsInService self.old }
         requires behind { 0 < n }
+        requires there { n ≤ length self.old.here.schedule }
         ensures { IfOk result (λ answer. ShowsBy (λ s A answer. (at : Option AnyPosition)
             → count_at s A.schedule A.position at ≡ Ok (length s.given + n)
             → AnswersEvent details s A.schedule A.position at answer) self.old self.new answer.items) }
@@ -309,7 +313,8 @@ impl Served {
                 let answer = stopped(alloc, &self.here, given, stuck)?;
                 Ok(answer)
             }
-            Err(_) => Err(AllocError),
+            Err(GotoFault::Memory) => Err(AllocError),
+            Err(GotoFault::PastSchedule) => unreachable!(),
         }
     }
 
@@ -322,6 +327,7 @@ impl Served {
     ) -> Result<Vec<u8>, AllocError>
         requires held { IsInService self.old }
         requires behind { 0 < n }
+        requires there { n ≤ length self.old.here.schedule }
         ensures { IfOk result (λ answer. ShowsIn (λ s A answer. (at : Option AnyPosition)
             → count_at s A.schedule A.position at ≡ Ok (length s.given + n)
             → AnswersEvent details s A.schedule A.position at answer) self.old self.new answer.items) }
@@ -352,7 +358,9 @@ impl Served {
     /// How many events lead to a position, or to the one here.
     fn count_at(&self, alloc: Global, at: Option<Position>) -> Result<u64, LookFault>
         requires { IsInService self.now }
-        ensures { (s : AnyScenario) (start : AnyNetwork) → IsServing s start self.now → Finds
+        ensures there { IfOk result (λ count.
+            count ≤ length self.now.scenario.given.items + length self.now.here.schedule) }
+        ensures count { (s : AnyScenario) (start : AnyNetwork) → IsServing s start self.now → Finds
             (λ count. count_at s self.now.here.schedule (length self.now.here.traces) (at_view at) ≡ Ok count)
             (λ answer. AnswersNowhere s self.now.here.schedule (length self.now.here.traces) (at_view at) answer)
             result }
@@ -365,7 +373,8 @@ impl Served {
 
     /// What is told of the event to which so many lead.
     fn event(&mut self, alloc: Global, details: Details, count: u64) -> Result<Vec<u8>, AllocError>
-        requires { IsInService self.old }
+        requires held { IsInService self.old }
+        requires there { count ≤ length self.old.scenario.given.items + length self.old.here.schedule }
         ensures { IfOk result (λ answer. ShowsIn (λ s A answer. (at : Option AnyPosition)
             → count_at s A.schedule A.position at ≡ Ok count
             → AnswersEvent details s A.schedule A.position at answer) self.old self.new answer.items) }
@@ -453,6 +462,7 @@ impl Served {
         requires held { IsInService self.old }
         requires text { (s : AnyScenario) × IsScenario text.now s }
         requires asked { IsWithinLimit (asked_view request) }
+        requires own { IsOfWhole (asked_view request) }
         ensures { AnswersBy (LeadsTo text.now self.old (asked_view request.entry) self.new) result }
     {
         match request {
@@ -463,7 +473,7 @@ impl Served {
             Asked::Places => Ok(places(alloc, text)?),
             Asked::Print => Ok(self.print(alloc)?),
             Asked::Weave { seed, limit } => Ok(woven_answer(alloc, &self.scenario, seed, limit)?),
-            _ => Err(LookFault::Memory),
+            _ => unreachable!(),
         }
     }
 
@@ -477,6 +487,8 @@ impl Served {
         requires held { IsInService self.old }
         requires text { (s : AnyScenario) × IsScenario text.now s }
         requires asked { IsWithinLimit (asked_view request) }
+        requires no_text { size_of (Some (asked_view request)) ≡ None }
+        requires other { IsLookRequest (asked_view request) → ⊥ }
         ensures { AnswersBy (LeadsTo text.now self.old (asked_view request.entry) self.new) result }
     {
         match request {
@@ -504,6 +516,7 @@ impl Served {
         requires held { IsInService self.old }
         requires text { (s : AnyScenario) × IsScenario text.now s }
         requires asked { IsWithinLimit (asked_view request) }
+        requires no_text { size_of (Some (asked_view request)) ≡ None }
         ensures { AnswersBy (LeadsTo text.now self.old (asked_view request.entry) self.new) result }
     {
         match look_of(alloc, self.scenario.names.as_slice(), request)? {
@@ -522,6 +535,7 @@ pub(crate) fn answer(
 ) -> Result<Vec<u8>, AllocError>
     requires held { IsHeldFor text.now subject.old }
     requires asked { (line : Line) × (K.asked line ≡ Some (asked_view request)) }
+    requires no_text { size_of (Some (asked_view request)) ≡ None }
     ensures { IfOk result (λ answer.
         AnswersOn text.now subject.old (asked_view request.entry) subject.new answer.items) }
 {

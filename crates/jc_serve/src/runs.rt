@@ -5,8 +5,7 @@ ghost use Rattle.jc_rules.specs.declared.limits.TheConstants.{MAX_BREAKS};
 ghost use Rattle.jc_printer.specs.Canon.{AreNamed};
 ghost use Rattle.jc_session.specs.AnswerOf.{AllNamed};
 ghost use Rattle.jc_debug.specs.Invariant.{IsDebugger};
-ghost use Rattle.jc_answers.specs.Parts.{member_of};
-ghost use Rattle.jc_replies.specs.ReplyTexts.{event_to, move_answer};
+ghost use Rattle.jc_replies.specs.ReplyTexts.{move_answer};
 ghost use Rattle.jc_replies.specs.AnswerOf.{background_of};
 ghost use Rattle.jc_requests.specs.Asked as K;
 ghost use Rattle.jc_session.specs.Requests as Q;
@@ -17,11 +16,10 @@ ghost use Rattle.jc_serve.specs.Moves.{ArePaired, IsMovedTo, IsNamedBy, GoesForw
 
 use crate::marks::named;
 use crate::served::Served;
-use jc_answers::{Member, object_text, refused};
+use jc_answers::{Member, refused};
 use jc_debug::{DebugStepFault, RunEnd};
-use jc_printer::print_event;
-use jc_replies::answer_of;
-use jc_rules::{Event, Refusal};
+use jc_replies::{answer_of, position_with};
+use jc_rules::Refusal;
 use jc_session::Reply;
 use std::alloc::{AllocError, Global};
 
@@ -71,7 +69,8 @@ impl Served {
         match self.here.step(1) {
             Ok(()) => {}
             Err(DebugStepFault::Stuck(stuck)) => return Ok(Some(RunEnd::Stuck(stuck))),
-            Err(_) => return Err(AllocError),
+            Err(DebugStepFault::Memory) => return Err(AllocError),
+            Err(DebugStepFault::AtEnd) => unreachable!(),
         }
         match self.named_here(alloc)? {
             Some(place) => Ok(Some(RunEnd::Break(place as u16 + 1))),
@@ -133,45 +132,6 @@ impl Served {
         )
     }
 
-    /// The event that leads to the position: at position 0 the last given one, if there is one.
-    fn last_event(&self) -> Option<Event>
-        ensures { result ≡ event_to (background_of self.now.scenario.given.items self.now.here)
-            (length self.now.here.traces) }
-    {
-        let n = self.here.position();
-        if n == 0 {
-            self.scenario.given.last().copied()
-        } else {
-            self.here.schedule().get(n as usize - 1).copied()
-        }
-    }
-
-    /// The position with its event, and beside them how a run ended and what else is told.
-    fn position_with<'a>(
-        &self,
-        alloc: Global,
-        end: Member<'a>,
-        more: Member<'a>,
-    ) -> Result<Vec<u8>, AllocError>
-        requires all { AllNamed self.now.here }
-        requires given { All (λ e. AreNamed e (length self.now.here.net.names)) self.now.scenario.given.items }
-        ensures { IfOk result (λ answer. answer.items
-            ≡ move_answer (background_of self.now.scenario.given.items self.now.here) (length self.now.here.traces)
-            (member_of end.entry) (member_of more.entry)) }
-    {
-        let at = Member::number("at", self.here.position());
-        match self.last_event() {
-            Some(event) => {
-                let text = print_event(alloc, self.here.net().names(), &event)?;
-                object_text(
-                    alloc,
-                    &[at, end, Member::string("event", text.as_str()), more],
-                )
-            }
-            None => object_text(alloc, &[at, end, more]),
-        }
-    }
-
     /// The position, to which a run back led that ended so.
     fn back_answer(&self, alloc: Global, end: Option<usize>) -> Result<Vec<u8>, AllocError>
         requires few { IfSome end (λ place. place < MAX_BREAKS) }
@@ -181,14 +141,15 @@ impl Served {
             ≡ move_answer (background_of self.now.scenario.given.items self.now.here) (length self.now.here.traces)
             (at_mark end) (at_start end)) }
     {
+        let given = self.scenario.given.as_slice();
         match end {
             Some(place) => {
                 let number = Member::number("break", place as u64 + 1);
-                self.position_with(alloc, number, Member::absent())
+                position_with(alloc, &self.here, given, number, Member::absent())
             }
             None => {
                 let start = Member::text("start", b"true".as_slice());
-                self.position_with(alloc, Member::absent(), start)
+                position_with(alloc, &self.here, given, Member::absent(), start)
             }
         }
     }

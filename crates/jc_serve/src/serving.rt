@@ -1,15 +1,15 @@
 //! The command `serve`: requests are read one by one, and each is answered before the next is read.
 
-ghost use Rattle.std.specs.Prelude.{◌≡◌, ◌⊎◌, ◌++◌, ◌∷◌, ◌+◌, ◌↔◌, [], Ok, true, false, IsTrue, IfOk, IfErr, OnOk, IsErrOf};
+ghost use Rattle.std.specs.Prelude.{◌≡◌, ◌⊎◌, ◌++◌, ◌∷◌, ◌+◌, ◌↔◌, [], None, Ok, true, false, IsTrue, IfOk, IfErr, OnOk, IsErrOf};
 ghost use Rattle.jc_io.specs.Written.{sink, Wrote, Interrupted, Written};
 ghost use Rattle.jc_session.specs.Views.{line_of_bytes};
 ghost use Rattle.jc_session.specs.Requests as Q;
 ghost use Rattle.jc_requests.specs.Asked as K;
-ghost use Rattle.jc_requests.specs.Input.{says, brings, finished, cut_short, too_many};
+ghost use Rattle.jc_requests.specs.Input.{size_of, says, brings, finished, cut_short, too_many};
 ghost use Rattle.jc_requests.specs.Views.{asked_view};
 ghost use Rattle.jc_serve.specs.Subjects.{IsSubject};
 ghost use Rattle.jc_serve.specs.Serving.{Held as AnyHeld, IsFirst, IsQuit, Serves};
-ghost use Rattle.jc_serve.specs.Stopped.{StoppedAtRead, StoppedWhole, StoppedInside};
+ghost use Rattle.jc_serve.specs.Stopped.{StoppedAtRead, StoppedWhole, StoppedInside, LeftPast};
 ghost use Rattle.jc_serve.specs.Progress.{IsHeldAs, IsHeld, IsOfAnswer, LeadsOn, GoesOut};
 
 use crate::answers::answer;
@@ -118,7 +118,8 @@ fn line_answer(
     held: &mut Held,
     line: Option<&[u8]>,
 ) -> Result<(Vec<u8>, bool), AllocError>
-    requires { IsHeld held.old }
+    requires held { IsHeld held.old }
+    requires no_text { size_of (K.asked (line_of_bytes line)) ≡ None }
     ensures answer { IfOk result (λ found.
         LeadsOn held.old (says (line_of_bytes line.entry)) held.new found.0.items) }
     ensures more { IfOk result (λ found. found.1 ≡ false ↔ IsQuit (says (line_of_bytes line.entry))) }
@@ -139,7 +140,8 @@ fn answer_line<K: Sink>(
     line: Option<&[u8]>,
     out: &mut K,
 ) -> Result<bool, ServeFault>
-    requires { IsHeld held.old }
+    requires held { IsHeld held.old }
+    requires no_text { size_of (K.asked (line_of_bytes line)) ≡ None }
     ensures goes { OnOk result (GoesOut Wrote held.old (says (line_of_bytes line.entry)) held.new
         (sink K.Sink out.old) (sink K.Sink out.new)) }
     ensures more { IfOk result (λ more. more ≡ false ↔ IsQuit (says (line_of_bytes line.entry))) }
@@ -187,15 +189,16 @@ fn converse<S: Source, K: Sink>(
     ensures finished { OnOk result (Written (λ text. Serves (S.left source.old) text finished)
         (sink K.Sink out.old) (sink K.Sink out.new)) }
     ensures too_many { IsErrOf result ServeFault.TooMany
-        → Written (λ text. Serves (S.left source.old) text too_many) (sink K.Sink out.old) (sink K.Sink out.new) }
+        → Written (λ text. Serves (S.left source.old) text too_many) (sink K.Sink out.old) (sink K.Sink out.new)
+        × LeftPast (S.left source.old) (S.left source.new) }
     ensures cut_short { IsErrOf result ServeFault.CutShort
         → Written (λ text. Serves (S.left source.old) text cut_short) (sink K.Sink out.old) (sink K.Sink out.new) }
     ensures read { IsErrOf result ServeFault.ReadFailed
         → StoppedAtRead (S.left source.old) (S.left source.new) (sink K.Sink out.old) (sink K.Sink out.new) }
     ensures memory { IsErrOf result ServeFault.Memory
-        → StoppedWhole (S.left source.old) (sink K.Sink out.old) (sink K.Sink out.new) }
+        → StoppedWhole (S.left source.old) (S.left source.new) (sink K.Sink out.old) (sink K.Sink out.new) }
     ensures write { IsErrOf result ServeFault.WriteFailed
-        → StoppedInside (S.left source.old) (sink K.Sink out.old) (sink K.Sink out.new) }
+        → StoppedInside (S.left source.old) (S.left source.new) (sink K.Sink out.old) (sink K.Sink out.new) }
     ensures reads { (IsErrOf result ServeFault.ReadFailed → S.failures source.new ≡ S.failures source.old + 1)
         × ((IsErrOf result ServeFault.ReadFailed → ⊥) → S.failures source.new ≡ S.failures source.old) }
     ensures writes { (IsErrOf result ServeFault.WriteFailed → K.failures out.new ≡ K.failures out.old + 1)
@@ -230,19 +233,22 @@ pub fn serve<S: Source, K: Sink>(
     ensures finished { OnOk result (Written (λ text. Serves (S.left source.old) text finished)
         (sink K.Sink out.old) (sink K.Sink out.new)) }
     ensures too_many { IsErrOf result ServeFault.TooMany
-        → Written (λ text. Serves (S.left source.old) text too_many) (sink K.Sink out.old) (sink K.Sink out.new) }
+        → Written (λ text. Serves (S.left source.old) text too_many) (sink K.Sink out.old) (sink K.Sink out.new)
+        × LeftPast (S.left source.old) (S.left source.new) }
     ensures cut_short { IsErrOf result ServeFault.CutShort
         → Written (λ text. Serves (S.left source.old) text cut_short) (sink K.Sink out.old) (sink K.Sink out.new) }
     // After a failed read: the answers of all requests that were read whole.
     ensures read { IsErrOf result ServeFault.ReadFailed
         → StoppedAtRead (S.left source.old) (S.left source.new) (sink K.Sink out.old) (sink K.Sink out.new) }
-    // Without memory: those of first requests, whole; or nothing, where memory was refused before the first.
+    // Without memory: those of first requests, whole, and at most the next one was read; or nothing, where memory was
+    // refused before the first.
     ensures memory { IsErrOf result ServeFault.Memory
         → ((source.new ≡ source.old) × (out.new ≡ out.old))
-        ⊎ StoppedWhole (S.left source.old) (sink K.Sink out.old) (sink K.Sink out.new) }
-    // After a failed write: those of first requests, whole, and the next one up to the failure.
+        ⊎ StoppedWhole (S.left source.old) (S.left source.new) (sink K.Sink out.old) (sink K.Sink out.new) }
+    // After a failed write: those of first requests, whole, and the next one up to the failure, behind which few bytes
+    // were read.
     ensures write { IsErrOf result ServeFault.WriteFailed
-        → StoppedInside (S.left source.old) (sink K.Sink out.old) (sink K.Sink out.new) }
+        → StoppedInside (S.left source.old) (S.left source.new) (sink K.Sink out.old) (sink K.Sink out.new) }
     // Failures come with these answers alone.
     ensures reads { (IsErrOf result ServeFault.ReadFailed → S.failures source.new ≡ S.failures source.old + 1)
         × ((IsErrOf result ServeFault.ReadFailed → ⊥) → S.failures source.new ≡ S.failures source.old) }

@@ -22,11 +22,11 @@ ghost use Rattle.jc_serve.specs.Subjects as subjects;
 ghost use Rattle.jc_serve.specs.Subjects.{stuck_line_of, given_stuck_answer};
 
 use crate::asking::{expression_at, look_of, replica_named};
-use crate::texts::{counted, journal, quit_answer, quoted};
-use jc_answers::Member;
+use crate::texts::{counted, journal, quit_answer};
+use jc_answers::{Member, quoted, unended};
 use jc_journal::stuck_line;
 use jc_listings::{Details, line_behind, places};
-use jc_looks::{Look, LookFault, flag, given_network, refused_with, shown, unended};
+use jc_looks::{Look, LookFault, flag, given_network, refused_with, shown};
 use jc_network::{Net, Stuck};
 use jc_requests::{Asked, Position};
 use jc_rules::{Refusal, Text};

@@ -5,7 +5,8 @@ ghost use Rattle.jc_rules.specs.declared.limits.TheConstants.{MAX_REPLICAS};
 ghost use Rattle.jc_parser.specs.Scripts.{IsScriptWellFormed};
 ghost use Rattle.jc_scenario.specs.Views.{scenario_view, scripts_view};
 ghost use Rattle.jc_scenario.specs.WellFormed.{IsScenario, IsWellFormedScenario};
-ghost use Rattle.jc_network.specs.Given.{before_given, IsStarted, IsGivenFault};
+ghost use Rattle.jc_rules.specs.Step.{Network as AnyNetwork};
+ghost use Rattle.jc_network.specs.Given.{before_given, IsStart, IsStarted, IsGivenFault};
 ghost use Rattle.jc_debug.specs.DebuggerState.{new_session};
 ghost use Rattle.jc_debug.specs.Invariant.{session_of};
 ghost use Rattle.jc_answers.specs.Parts.{member_of};
@@ -59,13 +60,15 @@ fn given_stop(
 
 /// A second debugger, of a scenario that has a start.
 fn second(alloc: Global, scenario: &Scenario) -> Result<Debugger, AllocError>
-    requires { IsWellFormedScenario (scenario_view scenario.now) }
+    requires formed { IsWellFormedScenario (scenario_view scenario.now) }
+    requires starts { (start : AnyNetwork) × IsStart (scenario_view scenario.now) start }
     ensures started { IfOk result (λ debugger. IsStarted (scenario_view scenario.now) debugger.net) }
     ensures session { IfOk result (λ debugger. session_of debugger ≡ new_session scenario.now.schedule.items) }
 {
     match Debugger::new(alloc, scenario.copy()?) {
         Ok(debugger) => Ok(debugger),
-        Err(_) => Err(AllocError),
+        Err(StartFault::Memory) => Err(AllocError),
+        Err(StartFault::Given { .. }) => unreachable!(),
     }
 }
 

@@ -6,7 +6,6 @@ ghost use Rattle.jc_rules.specs.declared.operation.Event.{Event as AnyEvent};
 ghost use Rattle.jc_rules.specs.declared.refusal.Refusal.{Refusal as AnyRefusal};
 ghost use Rattle.jc_rules.specs.Refused.{Cause};
 ghost use Rattle.jc_printer.specs.Canon.{AreNamed};
-ghost use Rattle.jc_printer.specs.Canon as canon;
 ghost use Rattle.jc_scenario.specs.Views.{scenario_view};
 ghost use Rattle.jc_scenario.specs.WellFormed.{IsWellFormedScenario};
 ghost use Rattle.jc_dump.specs.Lines.{IsNamedStuck};
@@ -25,22 +24,12 @@ use jc_debug::Debugger;
 use jc_listings::{Details, count_of, lines_between};
 use jc_looks::{LookFault, flag};
 use jc_network::Stuck;
-use jc_printer::push_quoted;
 use jc_replies::answer_of;
 use jc_requests::Position;
 use jc_rules::Event;
 use jc_scenario::Scenario;
 use jc_session::Reply;
 use std::alloc::{AllocError, Global};
-
-/// A text as a string of JSON.
-pub(crate) fn quoted(alloc: Global, text: &str) -> Result<Vec<u8>, AllocError>
-    ensures { IfOk result (λ answer. answer.items ≡ canon.quoted text.now) }
-{
-    let mut out = String::new(alloc);
-    push_quoted(&mut out, text)?;
-    Ok(out.into_bytes())
-}
 
 pub(crate) fn quit_answer(alloc: Global) -> Result<Vec<u8>, AllocError>
     ensures { IfOk result (λ answer. answer.items ≡ quit_answer) }

@@ -4,6 +4,13 @@ use Rattle.jc_looks.specs.Looks.{state_text, texts_from}
 use Rattle.jc_looks.proofs.LooksLemmas.{more_texts, all_texts}
 use Rattle.jc_looks.proofs.looks.states.Goals as goal
 
+pub state_of-requires : goal.state_of-requires
+state_of-requires c =
+    let n = ap length c.names.ensures.names in
+    let each = c.names.ensures.each in
+    let few = c.names.ensures.few in
+    omega (arith, n, each, few, c.loop-p-test.true)
+
 pub loop-p-preserved : goal.loop-p-preserved
 loop-p-preserved c =
     let names = c.args.net.now.names in

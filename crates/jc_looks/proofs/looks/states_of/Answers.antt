@@ -1,9 +1,12 @@
-use Rattle.std.proofs.Common.{sym, subst}
+use Rattle.std.proofs.Common.{length, sym, subst}
 use Rattle.std.proofs.lemmas.Result.{IfOk-weaker}
 use Rattle.jc_looks.specs.declared.looks.Look.TheVariants as L
-use Rattle.jc_looks.specs.Looks.{ShowsLook}
+use Rattle.jc_looks.specs.Looks.{ShowsLook, IsWithin}
 use Rattle.jc_looks.proofs.LooksLemmas.{shows_state}
 use Rattle.jc_looks.proofs.looks.states_of.Goals as goal
+
+pub state_of-requires : goal.state_of-requires
+state_of-requires c = subst (λ r. IsWithin (length c.args.net.now.history.now.states) (L.State r)) c.in-Some.is c.requires
 
 pub returns-in-Some : goal.returns-in-Some
 returns-in-Some c =

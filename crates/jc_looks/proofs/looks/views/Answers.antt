@@ -4,6 +4,13 @@ use Rattle.jc_looks.specs.Looks.{view_text, texts_from}
 use Rattle.jc_looks.proofs.LooksLemmas.{more_texts, all_texts}
 use Rattle.jc_looks.proofs.looks.views.Goals as goal
 
+pub view_of-requires : goal.view_of-requires
+view_of-requires c =
+    let n = ap length c.names.ensures.names in
+    let each = c.names.ensures.each in
+    let few = c.names.ensures.few in
+    omega (arith, n, each, few, c.loop-p-test.true)
+
 pub loop-p-preserved : goal.loop-p-preserved
 loop-p-preserved c =
     let names = c.args.net.now.names in

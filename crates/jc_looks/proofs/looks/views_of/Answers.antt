@@ -1,9 +1,12 @@
-use Rattle.std.proofs.Common.{sym, subst}
+use Rattle.std.proofs.Common.{length, sym, subst}
 use Rattle.std.proofs.lemmas.Result.{IfOk-weaker}
 use Rattle.jc_looks.specs.declared.looks.Look.TheVariants as L
-use Rattle.jc_looks.specs.Looks.{ShowsLook}
+use Rattle.jc_looks.specs.Looks.{ShowsLook, IsWithin}
 use Rattle.jc_looks.proofs.LooksLemmas.{shows_view}
 use Rattle.jc_looks.proofs.looks.views_of.Goals as goal
+
+pub view_of-requires : goal.view_of-requires
+view_of-requires c = subst (λ r. IsWithin (length c.args.net.now.history.now.states) (L.View r)) c.in-Some.is c.requires
 
 pub returns-in-Some : goal.returns-in-Some
 returns-in-Some c =

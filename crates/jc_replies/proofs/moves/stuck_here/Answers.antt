@@ -12,4 +12,4 @@ stuck_line-requires c =
 pub returns : goal.returns
 returns c =
     IfOk-weaker c.position_with.result _ _ (λ answer h.
-    stuck_told c.args.given.now c.args.debugger.now c.net.result.now c.args.stuck.now c.position.result c.in_ok-line.line.items c.as_slice.result.now c.absent.result c.text-line.result answer.items c.net.ensures.net c.position.ensures.position (c.as_slice.ensures.value ∙ c.without_lf-text.ensures) c.in_ok-line.ensures c.absent.ensures c.text-line.ensures h) c.position_with.ensures
+    stuck_told c.args.given.now c.args.debugger.now c.net.result.now c.args.stuck.now c.position.result c.in_ok-line.line.items c.as_slice.result.now c.absent.result c.text-line.result answer.items c.net.ensures.net c.position.ensures.position (c.as_slice.ensures.value ∙ c.unended-text.ensures) c.in_ok-line.ensures c.absent.ensures c.text-line.ensures h) c.position_with.ensures

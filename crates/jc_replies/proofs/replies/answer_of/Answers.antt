@@ -1,4 +1,4 @@
-use Rattle.std.proofs.Common.{ℕ, List, length, ap, sym, subst, ◌∙◌}
+use Rattle.std.proofs.Common.{◌<◌, ℕ, List, length, ap, sym, subst, ◌∙◌}
 use Rattle.std.proofs.lemmas.Result.{IfOk-weaker}
 use Rattle.std.specs.List.{All}
 use Rattle.jc_rules.specs.declared.operation.Event.{Event}
@@ -69,6 +69,12 @@ returns-in-States c =
     IfOk-weaker c.states.result _ _ (λ answer h r is.
     states_told c.args.given.now d c.args.text.now c.net-net.result.now answer.items c.net-net.ensures.net h r (subst (λ (a : AnyReply). IsReply d a r) c.in-States.is is)) c.states.ensures
 
+pub state_of-requires : goal.state_of-requires
+state_of-requires c =
+    let d = c.args.debugger.now in
+    let within = subst (λ (a : AnyReply). IsHere d a) c.in-StateOf.is c.requires.here in
+    subst (λ (x : NetworkHistory). c.in-StateOf.p < length x.history.now.states) (sym c.net-net.ensures.net) within
+
 pub returns-in-StateOf : goal.returns-in-StateOf
 returns-in-StateOf c =
     let d = c.args.debugger.now in
@@ -88,8 +94,8 @@ returns-in-Enabled c =
     IfOk-weaker c.enabled.result _ _ (λ answer h r is.
     enabled_answered c.args.given.now d c.args.text.now c.net-net.result.now answer.items c.net-net.ensures.net h r (subst (λ (a : AnyReply). IsReply d a r) c.in-Enabled.is is)) c.enabled.ensures
 
-pub events-requires : goal.events-requires
-events-requires c =
+pub events_answer-requires : goal.events_answer-requires
+events_answer-requires c =
     let d = c.args.debugger.now in
     let names = sym (c.names.ensures.names ∙ ap (λ (x : NetworkHistory). x.names) c.net-net.ensures.net) in
     subst (λ (es : List Event). All (λ e. AreNamed e (length c.names.result.now)) es) (sym c.schedule.ensures)
@@ -98,8 +104,8 @@ events-requires c =
 pub returns-in-Schedule : goal.returns-in-Schedule
 returns-in-Schedule c =
     let d = c.args.debugger.now in
-    IfOk-weaker c.events.result _ _ (λ answer h r is.
-    schedule_told c.args.given.now d c.args.text.now c.net-net.result.now c.names.result.now c.schedule.result.now answer.items c.net-net.ensures.net c.names.ensures.names c.schedule.ensures h r (subst (λ (a : AnyReply). IsReply d a r) c.in-Schedule.is is)) c.events.ensures
+    IfOk-weaker c.events_answer.result _ _ (λ answer h r is.
+    schedule_told c.args.given.now d c.args.text.now c.net-net.result.now c.names.result.now c.schedule.result.now answer.items c.net-net.ensures.net c.names.ensures.names c.schedule.ensures h r (subst (λ (a : AnyReply). IsReply d a r) c.in-Schedule.is is)) c.events_answer.ensures
 
 pub returns-in-Position : goal.returns-in-Position
 returns-in-Position c =

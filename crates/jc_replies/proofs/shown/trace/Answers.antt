@@ -1,19 +1,13 @@
-use Rattle.std.proofs.Common.{◌≡◌, ◌-◌, codes, get_or, refl, ap, ◌∙◌}
+use Rattle.std.proofs.Common.{◌-◌, get_or, refl}
 use Rattle.std.proofs.lemmas.Result.{IfOk-weaker}
 use Rattle.jc_rules.specs.declared.operation.Event.TheVariants.{Exec}
 use Rattle.jc_session.proofs.AnswerTextLemmas.{event_at, trace_named}
-use Rattle.jc_answers.specs.JsonTexts.{text_member, object_text}
-use Rattle.jc_answers.specs.Parts.{member_of}
-use Rattle.jc_answers.proofs.RefusedLemmas.{one_member}
-use Rattle.jc_replies.specs.ReplyTexts.{true_member}
 use Rattle.jc_replies.proofs.ShownLemmas.{start_told, trace_told}
 use Rattle.jc_replies.proofs.shown.trace.Goals as goal
 
 pub returns-in_default : goal.returns-in_default
 returns-in_default c =
-    let start : member_of c.text.result ≡ true_member (codes "start") = c.text.ensures ∙ ap (text_member (codes "start")) c.as_slice.ensures in
-    IfOk-weaker c.object_text.result _ _ (λ answer h.
-    start_told c.args.debugger.now answer.items (c.in_default.ensures.start.0 refl) (h ∙ ap object_text (one_member c.text.result (true_member (codes "start")) start))) c.object_text.ensures
+    IfOk-weaker c.flag.result _ _ (λ answer h. start_told c.args.debugger.now answer.items (c.in_default.ensures.start.0 refl) h) c.flag.ensures
 
 pub traced-requires : goal.traced-requires
 traced-requires c =

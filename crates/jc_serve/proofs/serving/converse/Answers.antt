@@ -6,7 +6,7 @@ use Rattle.jc_session.proofs.SentLemmas.{handed}
 use Rattle.jc_requests.specs.Input.{says, brings}
 use Rattle.jc_requests.specs.InputViews.{line_by}
 use Rattle.jc_serve.specs.Stopped.{StoppedWhole}
-use Rattle.jc_serve.proofs.ServingLemmas.{begun_at, next_line, next_text, one_more, at_quit, at_end, within_text, past_limit, at_read, whole, inside, not_both, read_failed}
+use Rattle.jc_serve.proofs.ServingLemmas.{begun_at, next_line, next_text, one_more, at_quit, at_end, within_text, past_limit, at_read, in_text, unanswered, left_past, inside, not_both, read_failed, read_starved}
 use Rattle.jc_serve.proofs.serving.converse.Goals as goal
 
 pub requests-init : goal.requests-init
@@ -24,19 +24,22 @@ returns-in_err-next-clause-read g c = λ k.
     at_read (g.S.Source.left c.args.source.now) (prepend_known c.requests.input.ahead (g.S.Source.left c.requests.source)) (g.S.Source.left c.next.new.source) c.requests.input.bytes c.requests.input.requests c.requests.held (sink g.K.Sink c.args.out.now) (sink g.K.Sink c.requests.out) w.0 c.requests.invariant.so_far w.1 w.4
 
 pub returns-in_err-next-clause-memory : goal.returns-in_err-next-clause-memory
-returns-in_err-next-clause-memory g c = λ _. whole (g.S.Source.left c.args.source.now) (prepend_known c.requests.input.ahead (g.S.Source.left c.requests.source)) c.requests.input.bytes c.requests.input.requests c.requests.held (sink g.K.Sink c.args.out.now) (sink g.K.Sink c.requests.out) c.requests.invariant.so_far
+returns-in_err-next-clause-memory g c = λ k.
+    let w = c.in_err-next.ensures.memory (read_starved c.from_residual.result c.in_err-next.field-0.0 c.from_residual.ensures.1 k) in
+    in_text (g.S.Source.left c.args.source.now) (prepend_known c.requests.input.ahead (g.S.Source.left c.requests.source)) c.next.new.self.ahead (g.S.Source.left c.next.new.source) c.in_err-next.ensures.few c.requests.input.bytes c.requests.input.requests c.requests.held (sink g.K.Sink c.args.out.now) (sink g.K.Sink c.requests.out) c.requests.invariant.so_far w.0 w.1 w.2
 
 pub returns-in_err-answer_line-in-Line-clause-memory : goal.returns-in_err-answer_line-in-Line-clause-memory
 returns-in_err-answer_line-in-Line-clause-memory g c = λ k.
+    let next = next_line (prepend_known c.requests.input.ahead (g.S.Source.left c.requests.source)) (prepend_known c.next.new.self.ahead (g.S.Source.left c.next.new.source)) c.requests.input.bytes c.requests.input.requests c.next.new.self.bytes c.next.new.self.requests (line_by c.next.new.self.ended c.next.new.self.line) (line_of_bytes c.line.result) c.in_ok-next.field-0 c.in_ok-next.ensures.turn c.in-Line.is c.line.ensures in
     let same = c.in_err-answer_line-in-Line.ensures.memory (handed _ _ _ c.from_residual-in_err-answer_line-in-Line.ensures.1 k) in
-    subst (λ (o : Stream). StoppedWhole (g.S.Source.left c.args.source.now) (sink g.K.Sink c.args.out.now) o) (ap (sink g.K.Sink) (sym same))
-    (whole (g.S.Source.left c.args.source.now) (prepend_known c.requests.input.ahead (g.S.Source.left c.requests.source)) c.requests.input.bytes c.requests.input.requests c.requests.held (sink g.K.Sink c.args.out.now) (sink g.K.Sink c.requests.out) c.requests.invariant.so_far)
+    subst (λ (o : Stream). StoppedWhole (g.S.Source.left c.args.source.now) (g.S.Source.left c.next.new.source) (sink g.K.Sink c.args.out.now) o) (ap (sink g.K.Sink) (sym same))
+    (unanswered (g.S.Source.left c.args.source.now) (prepend_known c.requests.input.ahead (g.S.Source.left c.requests.source)) c.next.new.self.ahead (g.S.Source.left c.next.new.source) c.in_ok-next.ensures.few c.requests.input.bytes c.requests.input.requests c.requests.held (sink g.K.Sink c.args.out.now) (sink g.K.Sink c.requests.out) c.requests.invariant.so_far c.next.new.self.bytes c.next.new.self.requests (says (line_of_bytes c.line.result)) next)
 
 pub returns-in_err-answer_line-in-Line-clause-write : goal.returns-in_err-answer_line-in-Line-clause-write
 returns-in_err-answer_line-in-Line-clause-write g c = λ k.
     let next = next_line (prepend_known c.requests.input.ahead (g.S.Source.left c.requests.source)) (prepend_known c.next.new.self.ahead (g.S.Source.left c.next.new.source)) c.requests.input.bytes c.requests.input.requests c.next.new.self.bytes c.next.new.self.requests (line_by c.next.new.self.ended c.next.new.self.line) (line_of_bytes c.line.result) c.in_ok-next.field-0 c.in_ok-next.ensures.turn c.in-Line.is c.line.ensures in
     let broke = c.in_err-answer_line-in-Line.ensures.write (handed _ _ _ c.from_residual-in_err-answer_line-in-Line.ensures.1 k) in
-    inside (g.S.Source.left c.args.source.now) (prepend_known c.requests.input.ahead (g.S.Source.left c.requests.source)) (prepend_known c.next.new.self.ahead (g.S.Source.left c.next.new.source)) c.requests.input.bytes c.requests.input.requests c.next.new.self.bytes c.next.new.self.requests c.requests.held c.answer_line.new.held (sink g.K.Sink c.args.out.now) (sink g.K.Sink c.requests.out) (sink g.K.Sink c.answer_line.new.out) (says (line_of_bytes c.line.result)) c.requests.invariant.so_far next broke
+    inside (g.S.Source.left c.args.source.now) (prepend_known c.requests.input.ahead (g.S.Source.left c.requests.source)) c.next.new.self.ahead (g.S.Source.left c.next.new.source) c.requests.input.bytes c.requests.input.requests c.next.new.self.bytes c.next.new.self.requests c.requests.held c.answer_line.new.held (sink g.K.Sink c.args.out.now) (sink g.K.Sink c.requests.out) (sink g.K.Sink c.answer_line.new.out) (says (line_of_bytes c.line.result)) c.in_ok-next.ensures.few c.requests.invariant.so_far next broke
 
 pub returns-then-not-branch-clause-finished : goal.returns-then-not-branch-clause-finished
 returns-then-not-branch-clause-finished g c =
@@ -63,23 +66,26 @@ requests-preserved g c =
 
 pub returns-in_err-answer_text-in-Text-clause-memory : goal.returns-in_err-answer_text-in-Text-clause-memory
 returns-in_err-answer_text-in-Text-clause-memory g c = λ k.
+    let next = next_text (prepend_known c.requests.input.ahead (g.S.Source.left c.requests.source)) (prepend_known c.next.new.self.ahead (g.S.Source.left c.next.new.source)) c.requests.input.bytes c.requests.input.requests c.next.new.self.bytes c.next.new.self.requests (line_by c.next.new.self.ended c.next.new.self.line) c.in-Text.text c.in_ok-next.field-0 c.in_ok-next.ensures.turn c.in-Text.is in
     let same = c.in_err-answer_text-in-Text.ensures.memory (handed _ _ _ c.from_residual-in_err-answer_text-in-Text.ensures.1 k) in
-    subst (λ (o : Stream). StoppedWhole (g.S.Source.left c.args.source.now) (sink g.K.Sink c.args.out.now) o) (ap (sink g.K.Sink) (sym same))
-    (whole (g.S.Source.left c.args.source.now) (prepend_known c.requests.input.ahead (g.S.Source.left c.requests.source)) c.requests.input.bytes c.requests.input.requests c.requests.held (sink g.K.Sink c.args.out.now) (sink g.K.Sink c.requests.out) c.requests.invariant.so_far)
+    subst (λ (o : Stream). StoppedWhole (g.S.Source.left c.args.source.now) (g.S.Source.left c.next.new.source) (sink g.K.Sink c.args.out.now) o) (ap (sink g.K.Sink) (sym same))
+    (unanswered (g.S.Source.left c.args.source.now) (prepend_known c.requests.input.ahead (g.S.Source.left c.requests.source)) c.next.new.self.ahead (g.S.Source.left c.next.new.source) c.in_ok-next.ensures.few c.requests.input.bytes c.requests.input.requests c.requests.held (sink g.K.Sink c.args.out.now) (sink g.K.Sink c.requests.out) c.requests.invariant.so_far c.next.new.self.bytes c.next.new.self.requests (brings c.in-Text.text.items) next)
 
 pub returns-in_err-answer_text-in-Text-clause-write : goal.returns-in_err-answer_text-in-Text-clause-write
 returns-in_err-answer_text-in-Text-clause-write g c = λ k.
     let next = next_text (prepend_known c.requests.input.ahead (g.S.Source.left c.requests.source)) (prepend_known c.next.new.self.ahead (g.S.Source.left c.next.new.source)) c.requests.input.bytes c.requests.input.requests c.next.new.self.bytes c.next.new.self.requests (line_by c.next.new.self.ended c.next.new.self.line) c.in-Text.text c.in_ok-next.field-0 c.in_ok-next.ensures.turn c.in-Text.is in
     let broke = c.in_err-answer_text-in-Text.ensures.write (handed _ _ _ c.from_residual-in_err-answer_text-in-Text.ensures.1 k) in
-    inside (g.S.Source.left c.args.source.now) (prepend_known c.requests.input.ahead (g.S.Source.left c.requests.source)) (prepend_known c.next.new.self.ahead (g.S.Source.left c.next.new.source)) c.requests.input.bytes c.requests.input.requests c.next.new.self.bytes c.next.new.self.requests c.requests.held c.answer_text.new.held (sink g.K.Sink c.args.out.now) (sink g.K.Sink c.requests.out) (sink g.K.Sink c.answer_text.new.out) (brings c.in-Text.text.items) c.requests.invariant.so_far next broke
+    inside (g.S.Source.left c.args.source.now) (prepend_known c.requests.input.ahead (g.S.Source.left c.requests.source)) c.next.new.self.ahead (g.S.Source.left c.next.new.source) c.requests.input.bytes c.requests.input.requests c.next.new.self.bytes c.next.new.self.requests c.requests.held c.answer_text.new.held (sink g.K.Sink c.args.out.now) (sink g.K.Sink c.requests.out) (sink g.K.Sink c.answer_text.new.out) (brings c.in-Text.text.items) c.in_ok-next.ensures.few c.requests.invariant.so_far next broke
 
 pub returns-in-End-clause-finished : goal.returns-in-End-clause-finished
 returns-in-End-clause-finished g c = at_end (g.S.Source.left c.args.source.now) (prepend_known c.requests.input.ahead (g.S.Source.left c.requests.source)) c.requests.input.bytes c.requests.input.requests c.requests.held (sink g.K.Sink c.args.out.now) (sink g.K.Sink c.requests.out) c.requests.invariant.so_far (c.in_ok-next.ensures.end (ap Ok c.in-End.is)).0
 
 pub returns-in-TooMany-clause-too_many : goal.returns-in-TooMany-clause-too_many
 returns-in-TooMany-clause-too_many g c = λ _.
-    let w = c.in_ok-next.ensures.too_many (ap Ok c.in-TooMany.is) in
-    past_limit (g.S.Source.left c.args.source.now) (prepend_known c.requests.input.ahead (g.S.Source.left c.requests.source)) (prepend_known c.next.new.self.ahead (g.S.Source.left c.next.new.source)) c.requests.input.bytes c.requests.input.requests c.requests.held (sink g.K.Sink c.args.out.now) (sink g.K.Sink c.requests.out) w.0 w.1 c.requests.invariant.so_far w.2 w.3 w.4
+    let w = c.in_ok-next.ensures.too_many (ap Ok c.in-TooMany.is) in (
+      past_limit (g.S.Source.left c.args.source.now) (prepend_known c.requests.input.ahead (g.S.Source.left c.requests.source)) (prepend_known c.next.new.self.ahead (g.S.Source.left c.next.new.source)) c.requests.input.bytes c.requests.input.requests c.requests.held (sink g.K.Sink c.args.out.now) (sink g.K.Sink c.requests.out) w.0 w.1 c.requests.invariant.so_far w.2 w.3 w.4,
+      left_past (g.S.Source.left c.args.source.now) (prepend_known c.requests.input.ahead (g.S.Source.left c.requests.source)) c.next.new.self.ahead (g.S.Source.left c.next.new.source) c.in_ok-next.ensures.few c.requests.input.bytes c.requests.input.requests c.requests.held (sink g.K.Sink c.args.out.now) (sink g.K.Sink c.requests.out) c.requests.invariant.so_far w.0 w.1 w.2 w.3 w.4,
+    )
 
 pub returns-in-CutShort-clause-cut_short : goal.returns-in-CutShort-clause-cut_short
 returns-in-CutShort-clause-cut_short g c = λ _.

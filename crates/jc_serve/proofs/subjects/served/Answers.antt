@@ -3,6 +3,9 @@ use Rattle.jc_scenario.specs.Views.{scenario_view}
 use Rattle.jc_serve.proofs.SubjectsLemmas.{new_session_for}
 use Rattle.jc_serve.proofs.subjects.served.Goals as goal
 
+pub second-requires-clause-starts : goal.second-requires-clause-starts
+second-requires-clause-starts c = (c.args.here.net.history.now, c.requires.started.start)
+
 pub returns : goal.returns
 returns c =
     new_session_for (scenario_view c.args.scenario)

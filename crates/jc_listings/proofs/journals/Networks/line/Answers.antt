@@ -1,7 +1,15 @@
-use Rattle.std.proofs.Common.{ap}
+use Rattle.std.proofs.Common.{Err, ap, ◌∙◌}
 use Rattle.jc_network.specs.NetworkHistory.{NetworkHistory}
-use Rattle.jc_listings.proofs.JournalPartsLemmas.{twins_after, line_moved}
+use Rattle.jc_listings.proofs.JournalPartsLemmas.{not_full, twin_can, twins_after, line_moved}
 use Rattle.jc_listings.proofs.journals.Networks.line.Goals as goal
+
+pub unreachable-requires : goal.unreachable-requires
+unreachable-requires c = not_full c.args.self.now.first c.requires.twins.first_new (c.step.ensures.full.0 (c.in-Err-Full.is ∙ ap Err c.in-Err-Full.field-0-is))
+
+pub follow-requires-clause-can : goal.follow-requires-clause-can
+follow-requires-clause-can c =
+    let n = c.args.self.now in
+    twin_can n.first n.second c.step.new.self.history.now c.args.next.now.event c.in-Ok.rules.rows c.requires.twins c.in-Ok.ensures.made.step
 
 pub returns-in_ok-follow-in-Ok-clause-line : goal.returns-in_ok-follow-in-Ok-clause-line
 returns-in_ok-follow-in-Ok-clause-line c =

@@ -1,5 +1,11 @@
+use Rattle.std.proofs.Common.{Err, ap, ◌∙◌, arith}
 use Rattle.jc_serve.proofs.RunsLemmas.{forward_quiet, forward_break}
 use Rattle.jc_serve.proofs.served.Served.forward.Goals as goal
+
+pub unreachable-requires : goal.unreachable-requires
+unreachable-requires c =
+    let past = c.step.ensures.end.0 (c.in-Err-AtEnd.is ∙ ap Err c.in-Err-AtEnd.field-0-is) in
+    omega (arith, past, c.requires.more)
 
 pub returns-in-Some : goal.returns-in-Some
 returns-in-Some c =

@@ -5,7 +5,7 @@ use Rattle.jc_rules.specs.declared.operation.Event.TheVariants.{Exec}
 use Rattle.jc_printer.specs.Canon.{canon_event, quoted}
 use Rattle.jc_replies.specs.ReplyTexts.{event_texts}
 use Rattle.jc_replies.proofs.ShownLemmas.{more_items, all_items}
-use Rattle.jc_replies.proofs.shown.events.Goals as goal
+use Rattle.jc_replies.proofs.shown.events_answer.Goals as goal
 
 pub loop-event-preserved : goal.loop-event-preserved
 loop-event-preserved c =

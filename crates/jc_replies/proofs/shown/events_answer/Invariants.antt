@@ -1,7 +1,7 @@
 use Rattle.std.proofs.Common.{take}
 use Rattle.jc_answers.specs.Parts.{HasItems}
 use Rattle.jc_replies.specs.ReplyTexts.{event_texts}
-use Rattle.jc_replies.proofs.shown.events.Given as goal
+use Rattle.jc_replies.proofs.shown.events_answer.Given as goal
 
 -- the events so far
 abbrev pub invariant-loop-event : goal.invariant-loop-event

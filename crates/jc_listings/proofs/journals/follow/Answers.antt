@@ -1,0 +1,9 @@
+use Rattle.std.proofs.Common.{Err, ap, ◌∙◌}
+use Rattle.jc_listings.proofs.JournalPartsLemmas.{not_full, not_stuck}
+use Rattle.jc_listings.proofs.journals.follow.Goals as goal
+
+pub unreachable-requires : goal.unreachable-requires
+unreachable-requires c = not_full c.args.net.now c.requires.new (c.step.ensures.full.0 (c.in-Err-Full.is ∙ ap Err c.in-Err-Full.field-0-is))
+
+pub unreachable-in-Err-Stuck-requires : goal.unreachable-in-Err-Stuck-requires
+unreachable-in-Err-Stuck-requires c = not_stuck c.args.net.now.history.now c.args.event.now c.in-Err-Stuck.field-0-0 c.requires.can (c.step.ensures.stuck c.in-Err-Stuck.field-0-0 (c.in-Err-Stuck.is ∙ ap Err c.in-Err-Stuck.field-0-is))

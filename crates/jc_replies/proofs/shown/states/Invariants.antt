@@ -1,8 +1,0 @@
-use Rattle.std.proofs.Common.{take}
-use Rattle.jc_answers.specs.Parts.{HasItems}
-use Rattle.jc_replies.specs.ReplyTexts.{state_answers}
-use Rattle.jc_replies.proofs.shown.states.Given as goal
-
--- the states of the replicas below p
-abbrev pub invariant-loop-p : goal.invariant-loop-p
-invariant-loop-p l = HasItems l.list (state_answers 0 l.net.names (take l.p l.net.history.now.states))
