@@ -80,7 +80,7 @@ impl Net {
     pub fn of(alloc: Global, scenario: Scenario) -> Result<(Self, Vec<Event>), Unstarted>
         requires { IsWellFormedScenario (scenario_view scenario) }
         ensures started { IfOk result (λ r. IsStarted (scenario_view scenario) r.0) }
-        ensures schedule { IfOk result (λ r. r.1 ≡ scenario.schedule) }
+        ensures schedule { IfOk result (λ r. r.1.items ≡ scenario.schedule.items) }
         ensures unstarted { IfErr result (IsUnstartedFault (scenario_view scenario)) }
     {
         let Scenario {

@@ -35,7 +35,7 @@ use crate::served::{Served, told_marks};
 use crate::subjects::{Subject, fault_answer};
 use crate::texts::{answered, counted, journal, quit_answer, quoted, stopped};
 use jc_answers::refused;
-use jc_debug::GotoFault;
+use jc_debug::DebugFault;
 use jc_effects::Effects;
 use jc_journal::{Before, NumberedEvent, event_effects, event_line};
 use jc_listings::{Details, line_behind, places, woven_answer};
@@ -189,7 +189,7 @@ impl Served {
     {
         match self.aside.goto(n) {
             Ok(()) => shown(alloc, self.aside.net(), look),
-            Err(GotoFault::Stuck(stuck)) => {
+            Err(DebugFault::Stuck(stuck)) => {
                 let given = self.scenario.given.as_slice();
                 Ok(stopped(alloc, &self.aside, given, stuck)?)
             }
@@ -304,7 +304,7 @@ impl Served {
                 self.bring_aside(n - 1)?;
                 self.line_here(alloc, details)
             }
-            Err(GotoFault::Stuck(stuck)) => {
+            Err(DebugFault::Stuck(stuck)) => {
                 let given = self.scenario.given.as_slice();
                 let answer = stopped(alloc, &self.here, given, stuck)?;
                 Ok(answer)

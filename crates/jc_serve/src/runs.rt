@@ -18,7 +18,7 @@ ghost use Rattle.jc_serve.specs.Moves.{ArePaired, IsMovedTo, IsNamedBy, GoesForw
 use crate::marks::named;
 use crate::served::Served;
 use jc_answers::{Member, object_text, refused};
-use jc_debug::{DebugStepFault, RunEnd};
+use jc_debug::{DebugFault, RunEnd};
 use jc_printer::print_event;
 use jc_replies::answer_of;
 use jc_rules::{Event, Refusal};
@@ -70,7 +70,7 @@ impl Served {
     {
         match self.here.step(1) {
             Ok(()) => {}
-            Err(DebugStepFault::Stuck(stuck)) => return Ok(Some(RunEnd::Stuck(stuck))),
+            Err(DebugFault::Stuck(stuck)) => return Ok(Some(RunEnd::Stuck(stuck))),
             Err(_) => return Err(AllocError),
         }
         match self.named_here(alloc)? {
