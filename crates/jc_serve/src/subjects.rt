@@ -95,7 +95,13 @@ fn subject_of_scenario(alloc: Global, scenario: Scenario) -> Result<Subject, All
 {
     match Debugger::new(alloc, scenario.copy()?) {
         Ok(here) => served(alloc, scenario, here),
-        Err(Unstarted::Given { names: _, at, stuck }) => given_stop(alloc, scenario, at, stuck),
+        Err(
+            Unstarted::Given {
+                names: _,
+                at,
+                stuck,
+            },
+        ) => given_stop(alloc, scenario, at, stuck),
         Err(Unstarted::Memory) => Err(AllocError),
     }
 }

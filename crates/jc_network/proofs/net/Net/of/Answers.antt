@@ -14,8 +14,7 @@ returns-in-Ok-clause-started c =
 -- the first of them that is stuck, and the names
 pub returns-in-Err-Given-clause-unstarted : goal.returns-in-Err-Given-clause-unstarted
 returns-in-Err-Given-clause-unstarted c =
-    let w = c.in-Err-Given in
-    (
+    let w = c.in-Err-Given in (
       c.into_names.ensures ∙ (c.lead.ensures.names ∙ c.in_ok-net.ensures.called),
       has_stuck (scenario_view c.args.scenario) c.in_ok-net.net c.deref.result.now w.at w.stuck c.in_ok-net.ensures c.deref.ensures.value (w.ensures.stuck w.at w.stuck (ap Err w.field-0-is)),
     )
