@@ -1,4 +1,4 @@
-use Rattle.std.proofs.Common.{◌≡◌, ◌∙◌, Err, ap}
+use Rattle.std.proofs.Common.{◌∙◌, Err, ap}
 use Rattle.jc_scenario.specs.Views.{scenario_view}
 use Rattle.jc_network.proofs.GivenHistoryLemmas.{has_parts, has_started, has_stuck}
 use Rattle.jc_network.proofs.net.Net.of.Goals as goal
