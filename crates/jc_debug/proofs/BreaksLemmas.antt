@@ -1,13 +1,16 @@
 -- About specs/DebuggerState and specs/Moves: which breakpoints name a position.
-use Rattle.std.proofs.Common.{◌≡◌, ◌↔◌, ℕ, ◌+◌, ◌<◌, ◌≤◌, List, length, take, slice_get, slice_set, nat_eq, Option, Some, None, Bool, true, false, IsTrue, ap, sym, subst, ◌∙◌, arith, rules}
+use Rattle.std.proofs.Common.{◌≡◌, ◌↔◌, ℕ, ◌+◌, ◌<◌, ◌≤◌, List, length, take, slice_get, slice_set, nat_eq, Option, Some, None, Result, Ok, Err, OnErr, Bool, true, false, IsTrue, ap, sym, subst, ◌∙◌, arith, rules}
 use Rattle.std.proofs.lemmas.Option.{slice_get_within, same_Some}
 use Rattle.jc_rules.specs.declared.operation.Event.{Event}
+use Rattle.jc_rules.specs.declared.refusal.Refusal.TheVariants as F
 use Rattle.jc_rules.specs.declared.rule.Rule.{Rule}
 use Rattle.jc_rules.specs.Step.{Network, StepIn, replica_of}
 use Rattle.jc_rules.proofs.VersionLemmas.{one_step_in, one_after_in}
 use Rattle.jc_debug.specs.declared.breaks.Break.{Break}
 use Rattle.jc_debug.specs.declared.breaks.Break.TheVariants as Kind
-use Rattle.jc_debug.specs.Moves.{IsTraceOf}
+use Rattle.jc_debug.specs.declared.fault.DebugFault.{DebugFault}
+use Rattle.jc_debug.specs.declared.fault.DebugFault.TheVariants as D
+use Rattle.jc_debug.specs.Moves.{IsTraceOf, IsSet}
 use Rattle.jc_debug.specs.DebuggerState.{Session, MakesEvent, Names, NamesAt, IsFree, HasRule}
 use Rattle.jc_debug.specs.Invariant.{Seen, IsDebugger, start_of, session_of, placed_in}
 
@@ -100,3 +103,16 @@ placed_trail d j b h = record {
   where
     set_length : {X : Type 0} (xs : List X) (j : ℕ) (x : X) → length (slice_set xs j x) ≡ length xs
     set_length xs j x = search rules
+
+-- ---- a breakpoint that could not be set
+
+pub never_missing : (old new : Seen) (b : Break) (r : Result ℕ DebugFault) → IsSet old new b r → r ≡ Err (D.Refused F.NoSuchReplica) → ⊥
+never_missing old new b (Ok k) h e = cc
+never_missing old new b (Err fault) h e =
+    let x : fault ≡ D.Refused F.NoSuchReplica = cc in
+    let y : D.Refused F.TooManyBreaks ≡ D.Refused F.NoSuchReplica = sym h.0 ∙ x in
+    cc
+
+pub none_set : (old new : Seen) (b : Break) (r : Result ℕ DebugFault) → IsSet old new b r → OnErr r (new ≡ old)
+none_set old new b (Ok k) h = tt
+none_set old new b (Err fault) (is, none, same) = same

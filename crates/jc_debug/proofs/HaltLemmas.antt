@@ -3,13 +3,12 @@ use Rattle.std.proofs.Common.{◌≡◌, ℕ, ◌<◌, ◌≤◌, length, slice_
 use Rattle.jc_rules.specs.declared.operation.Event.{Event}
 use Rattle.jc_network.specs.declared.fault.Stuck.{Stuck}
 use Rattle.jc_network.specs.Steps.{IsStuckFor}
-use Rattle.jc_debug.specs.declared.fault.GotoFault.{GotoFault}
-use Rattle.jc_debug.specs.declared.fault.GotoFault.TheVariants as G
+use Rattle.jc_rules.specs.declared.refusal.Refusal.{Refusal}
+use Rattle.jc_debug.specs.declared.fault.DebugFault.{DebugFault}
+use Rattle.jc_debug.specs.declared.fault.DebugFault.TheVariants as D
 use Rattle.jc_debug.specs.declared.fault.Halt.{Halt}
 use Rattle.jc_debug.specs.declared.fault.Halt.TheVariants as H
-use Rattle.jc_debug.specs.declared.fault.DebugStepFault.{DebugStepFault}
-use Rattle.jc_debug.specs.declared.fault.DebugStepFault.TheVariants as S
-use Rattle.jc_debug.specs.Moves.{IsToldAt, MoveStopsAt, IsNextHalted, IsHalted, IsStepFault, IsGotoFault, step_fault, goto_fault}
+use Rattle.jc_debug.specs.Moves.{IsToldAt, MoveStopsAt, IsNextHalted, IsHalted, IsMoveFault, halt_fault}
 use Rattle.jc_debug.specs.Invariant.{Seen, IsDebugger, IsMoved, start_of}
 use Rattle.jc_debug.proofs.InvariantLemmas.{is_at, carried}
 
@@ -38,18 +37,10 @@ halted old now new n to (H.Stuck s) m le lt told e = (n, stops_at old now new n 
 
 -- ---- the refusals of the calls
 
-pub step_halted : (old new : Seen) (to : ℕ) (halt : Halt) (fault : DebugStepFault) → fault ≡ step_fault halt → IsHalted old new to halt → IsStepFault old new to fault
-step_halted old new to (H.Stuck s) fault e h = subst (λ (f : DebugStepFault). IsStepFault old new to f) (sym e) h
-step_halted old new to (H.Memory at) fault e h = subst (λ (f : DebugStepFault). IsStepFault old new to f) (sym e) (at, h)
+pub move_halted : (refusal : Refusal) (old new : Seen) (to : ℕ) (halt : Halt) (fault : DebugFault) → fault ≡ halt_fault halt → IsHalted old new to halt → IsMoveFault refusal old new to fault
+move_halted refusal old new to (H.Stuck s) fault e h = subst (λ (f : DebugFault). IsMoveFault refusal old new to f) (sym e) h
+move_halted refusal old new to (H.Memory at) fault e h = subst (λ (f : DebugFault). IsMoveFault refusal old new to f) (sym e) (at, h)
 
-pub never_at_end : (halt : Halt) → step_fault halt ≡ S.AtEnd → ⊥
-never_at_end (H.Stuck s) e = cc
-never_at_end (H.Memory at) e = cc
-
-pub goto_halted : (old new : Seen) (to : ℕ) (halt : Halt) (fault : GotoFault) → fault ≡ goto_fault halt → IsHalted old new to halt → IsGotoFault old new to fault
-goto_halted old new to (H.Stuck s) fault e h = subst (λ (f : GotoFault). IsGotoFault old new to f) (sym e) h
-goto_halted old new to (H.Memory at) fault e h = subst (λ (f : GotoFault). IsGotoFault old new to f) (sym e) (at, h)
-
-pub never_past : (halt : Halt) → goto_fault halt ≡ G.PastSchedule → ⊥
-never_past (H.Stuck s) e = cc
-never_past (H.Memory at) e = cc
+pub never_refused : (halt : Halt) (refusal : Refusal) → halt_fault halt ≡ D.Refused refusal → ⊥
+never_refused (H.Stuck s) refusal e = cc
+never_refused (H.Memory at) refusal e = cc

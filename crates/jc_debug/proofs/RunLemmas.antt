@@ -3,8 +3,8 @@ use Rattle.std.proofs.Common.{◌≡◌, ℕ, ◌+◌, ◌<◌, ◌≤◌, lengt
 use Rattle.jc_network.specs.declared.fault.Stuck.{Stuck}
 use Rattle.jc_debug.specs.declared.fault.Halt.TheVariants as H
 use Rattle.jc_debug.specs.declared.fault.RunEnd.TheVariants as E
-use Rattle.jc_debug.specs.declared.fault.DebugRunFault.TheVariants as R
-use Rattle.jc_debug.specs.Moves.{IsNextHalted, RunMoves, IsDebugRunFault}
+use Rattle.jc_debug.specs.declared.fault.DebugFault.TheVariants as D
+use Rattle.jc_debug.specs.Moves.{IsNextHalted, RunMoves, IsRunFault}
 use Rattle.jc_debug.specs.DebuggerState.{NamesAt, IsFree, IsLeast, breaks, sticks, ends}
 use Rattle.jc_debug.specs.Invariant.{Seen, IsDebugger, IsMoved, start_of, session_of}
 use Rattle.jc_debug.proofs.HaltLemmas.{told_old}
@@ -43,7 +43,7 @@ ran_stuck old now new i s m le q told e =
     }
 
 -- a run that ends for want of memory
-pub ran_short : (old now new : Seen) (i : ℕ) → IsMoved old now i → length old.traces ≤ i → i < length old.schedule → Quiet old (i + 1) → new ≡ now → IsDebugRunFault old new R.Memory
+pub ran_short : (old now new : Seen) (i : ℕ) → IsMoved old now i → length old.traces ≤ i → i < length old.schedule → Quiet old (i + 1) → new ≡ now → IsRunFault old new D.Memory
 ran_short old now new i m le lt q e =
     (i, record { forward = le; short = lt; moved = subst (λ (v : Seen). IsMoved old v i) (sym e) m }, λ k from to. q k (omega (arith, to)) from)
 

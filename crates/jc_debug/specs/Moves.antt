@@ -2,26 +2,20 @@
 use Rattle.std.specs.Prelude.{◌≡◌, ◌≢◌, ℕ, ◌+◌, ◌<◌, ◌≤◌, List, length, slice_get, Some, None, Result, Ok, Err}
 use Rattle.jc_rules.specs.declared.limits.TheConstants.{MAX_EVENTS}
 use Rattle.jc_rules.specs.declared.operation.Event.{Event}
+use Rattle.jc_rules.specs.declared.refusal.Refusal.{Refusal}
+use Rattle.jc_rules.specs.declared.refusal.Refusal.TheVariants as F
 use Rattle.jc_rules.specs.declared.rule.Rule.{Rule}
 use Rattle.jc_rules.specs.Refused.{Cause}
 use Rattle.jc_rules.specs.Step.{Network, StepIn}
 use Rattle.jc_network.specs.declared.fault.Stuck.{Stuck}
 use Rattle.jc_network.specs.Steps.{IsStuckFor, stuck_for}
 use Rattle.jc_debug.specs.declared.breaks.Break.{Break}
-use Rattle.jc_debug.specs.declared.breaks.BreakFault.{BreakFault}
-use Rattle.jc_debug.specs.declared.breaks.BreakFault.TheVariants as B
-use Rattle.jc_debug.specs.declared.fault.ActFault.{ActFault}
-use Rattle.jc_debug.specs.declared.fault.ActFault.TheVariants as A
-use Rattle.jc_debug.specs.declared.fault.DebugStepFault.{DebugStepFault}
-use Rattle.jc_debug.specs.declared.fault.DebugStepFault.TheVariants as S
-use Rattle.jc_debug.specs.declared.fault.GotoFault.{GotoFault}
-use Rattle.jc_debug.specs.declared.fault.GotoFault.TheVariants as G
+use Rattle.jc_debug.specs.declared.fault.DebugFault.{DebugFault}
+use Rattle.jc_debug.specs.declared.fault.DebugFault.TheVariants as D
 use Rattle.jc_debug.specs.declared.fault.Halt.{Halt}
 use Rattle.jc_debug.specs.declared.fault.Halt.TheVariants as H
 use Rattle.jc_debug.specs.declared.fault.RunEnd.{RunEnd}
 use Rattle.jc_debug.specs.declared.fault.RunEnd.TheVariants as E
-use Rattle.jc_debug.specs.declared.fault.DebugRunFault.{DebugRunFault}
-use Rattle.jc_debug.specs.declared.fault.DebugRunFault.TheVariants as R
 use Rattle.jc_debug.specs.DebuggerState.{IsNetworkAt, IsStuckAt, MakesEvent, IsFree, IsLeast, RunOutcome, breaks, sticks, ends, Runs, acted}
 use Rattle.jc_debug.specs.Invariant.{Seen, IsMoved, start_of, session_of, placed_in}
 
@@ -51,25 +45,15 @@ abbrev pub IsHalted : Seen → Seen → ℕ → Halt → Type 0
 IsHalted old new to (H.Stuck s) = (n : ℕ) × MoveStopsAt old new to n × IsToldAt (start_of old) old.schedule n s
 IsHalted old new to (H.Memory at) = MoveStopsAt old new to at
 
--- Why a step ended early; at `AtEnd` nothing moved.
-abbrev pub IsStepFault : Seen → Seen → ℕ → DebugStepFault → Type 0
-IsStepFault old new to (S.Stuck s) = IsHalted old new to (H.Stuck s)
-IsStepFault old new to S.Memory = (n : ℕ) × MoveStopsAt old new to n
-IsStepFault old new to S.AtEnd = new ≡ old
+-- Why a move forward wasn't made, or ended early. It is refused for this alone, and then nothing moved.
+abbrev pub IsMoveFault : Refusal → Seen → Seen → ℕ → DebugFault → Type 0
+IsMoveFault refusal old new to (D.Refused r) = (r ≡ refusal) × (new ≡ old)
+IsMoveFault refusal old new to (D.Stuck s) = IsHalted old new to (H.Stuck s)
+IsMoveFault refusal old new to D.Memory = (n : ℕ) × MoveStopsAt old new to n
 
--- the same for `goto`
-abbrev pub IsGotoFault : Seen → Seen → ℕ → GotoFault → Type 0
-IsGotoFault old new to (G.Stuck s) = IsHalted old new to (H.Stuck s)
-IsGotoFault old new to G.Memory = (n : ℕ) × MoveStopsAt old new to n
-IsGotoFault old new to G.PastSchedule = new ≡ old
-
-abbrev pub step_fault : Halt → DebugStepFault
-step_fault (H.Stuck s) = S.Stuck s
-step_fault (H.Memory at) = S.Memory
-
-abbrev pub goto_fault : Halt → GotoFault
-goto_fault (H.Stuck s) = G.Stuck s
-goto_fault (H.Memory at) = G.Memory
+abbrev pub halt_fault : Halt → DebugFault
+halt_fault (H.Stuck s) = D.Stuck s
+halt_fault (H.Memory at) = D.Memory
 
 -- the rows are those of the trace of the event which led to the position
 pub record IsTraceOf (d : Seen) (rows : List (Rule × ℕ)) : Type 0 where
@@ -94,13 +78,15 @@ pub record RunMoves (old new : Seen) (end : RunEnd) : Type 0 where
   pub moved : IsMoved old new position
   pub runs : Runs (start_of old) (session_of old) position outcome
 
--- A run for which there was no memory: no breakpoint names a later position up to where it stopped.
-abbrev pub IsDebugRunFault : Seen → Seen → DebugRunFault → Type 0
-IsDebugRunFault old new R.Memory =
+-- A run that is refused at the schedule's end, or for which there was no memory: no breakpoint names a later position
+-- up to where it stopped. A stuck event is no fault of it.
+abbrev pub IsRunFault : Seen → Seen → DebugFault → Type 0
+IsRunFault old new (D.Refused r) = (r ≡ F.AtEnd) × (new ≡ old)
+IsRunFault old new (D.Stuck s) = ⊥
+IsRunFault old new D.Memory =
     (n : ℕ)
     × MoveStopsAt old new (length old.schedule) n
     × ((m : ℕ) → length old.traces < m → m ≤ n → IsFree (start_of old) (session_of old) m)
-IsDebugRunFault old new R.AtEnd = new ≡ old
 
 -- ---- events of a caller's
 
@@ -118,22 +104,24 @@ pub record IsStuckHere (d : Seen) (event : Event) (s : Stuck) : Type 0 where
   pub is_at : IsNetworkAt (start_of d) d.schedule (length d.traces) d.net.history.now
   pub stuck : IsStuckFor d.net.history.now event s
 
-abbrev pub IsActFault : Seen → Event → ActFault → Type 0
-IsActFault d event (A.Stuck s) = IsStuckHere d event s
-IsActFault d event A.TooManyEvents = length d.traces ≡ MAX_EVENTS
-IsActFault d event A.Memory = Unit {0}
+abbrev pub IsActFault : Seen → Event → DebugFault → Type 0
+IsActFault d event (D.Refused r) = (r ≡ F.TooManyEvents) × (length d.traces ≡ MAX_EVENTS)
+IsActFault d event (D.Stuck s) = IsStuckHere d event s
+IsActFault d event D.Memory = Unit {0}
 
 -- ---- breakpoints
 
--- A breakpoint gets the least free place, if there is one, and its number is one more.
-abbrev pub IsSet : Seen → Seen → Break → Result ℕ BreakFault → Type 0
+-- A breakpoint gets the least free place, and its number is one more; or it is refused since there is none.
+abbrev pub IsSet : Seen → Seen → Break → Result ℕ DebugFault → Type 0
 IsSet old new b (Ok k) =
     (j : ℕ)
     × (k ≡ j + 1)
     × IsLeast (λ i. slice_get old.breaks i ≡ Some None) j
     × (new ≡ placed_in old j (Some b))
-IsSet old new b (Err B.TooManyBreaks) = ((j : ℕ) → slice_get old.breaks j ≢ Some None) × (new ≡ old)
-IsSet old new b (Err B.NoSuchReplica) = new ≡ old
+IsSet old new b (Err fault) =
+    (fault ≡ D.Refused F.TooManyBreaks)
+    × ((j : ℕ) → slice_get old.breaks j ≢ Some None)
+    × (new ≡ old)
 
 -- There was a breakpoint k, and its place is free now.
 pub record IsCleared (old new : Seen) (k : ℕ) : Type 0 where

@@ -1,4 +1,4 @@
-//! Breakpoints: what they name, and why one isn't set. The debugger's file has the moves.
+//! Breakpoints: what they name. The debugger's file has the moves.
 
 use jc_rules::Rule;
 
@@ -11,13 +11,4 @@ pub enum Break {
     Rule(Rule),
     /// Each position whose event is of the replica.
     Replica(u16),
-}
-
-/// Why a breakpoint wasn't set.
-#[derive(Clone, Copy)]
-pub enum BreakFault {
-    /// The network has no such replica.
-    NoSuchReplica,
-    /// There are `MAX_BREAKS` breakpoints already.
-    TooManyBreaks,
 }

@@ -1,29 +1,22 @@
 //! The debugger: a network, its schedule, the traces of the events that were made, and breakpoints. Each call is a
 //! move, a question, or a change of breakpoints.
 
-ghost use Rattle.std.specs.Prelude.{◌≡◌, ◌≢◌, ◌+◌, ◌-◌, ◌<◌, ◌≤◌, ◌↔◌, ℕ, length, slice_get, Some, None, Err, IsTrue, IsFalse, IsOk, IsNone, IfOk, IfErr, IfSome, IfNone, OnOk, OnErr, IsErrOf};
+ghost use Rattle.std.specs.Prelude.{◌≡◌, ◌≢◌, ◌+◌, ◌-◌, ◌<◌, ◌≤◌, ◌↔◌, ℕ, length, slice_get, Some, None, IsTrue, IsFalse, IsOk, IsNone, IfOk, IfErr, IfSome, IfNone, OnOk, OnErr, IsErrOf};
 ghost use Rattle.jc_rules.specs.declared.limits.TheConstants.{MAX_BREAKS, MAX_EVENTS};
-ghost use Rattle.jc_network.specs.declared.fault.StartFault.TheVariants as Start;
-ghost use Rattle.jc_network.specs.declared.fault.Stuck.{Stuck as AnyStuck};
-ghost use Rattle.jc_network.specs.Given.{before_given, IsStarted, IsGivenFault};
+ghost use Rattle.jc_network.specs.Given.{IsStarted, IsUnstartedFault};
 ghost use Rattle.jc_scenario.specs.WellFormed.{IsWellFormedScenario};
 ghost use Rattle.jc_scenario.specs.Views.{scenario_view};
 ghost use Rattle.jc_debug.specs.declared.breaks.Break.TheVariants as Kind;
-ghost use Rattle.jc_debug.specs.declared.breaks.BreakFault.TheVariants as B;
-ghost use Rattle.jc_debug.specs.declared.fault.ActFault.TheVariants as A;
-ghost use Rattle.jc_debug.specs.declared.fault.GotoFault.TheVariants as G;
-ghost use Rattle.jc_debug.specs.declared.fault.DebugRunFault.TheVariants as R;
-ghost use Rattle.jc_debug.specs.declared.fault.DebugStepFault.TheVariants as S;
-ghost use Rattle.jc_debug.specs.Moves.{IsNextHalted, IsHalted, IsStepFault, IsGotoFault, IsTraceOf, RunMoves, IsDebugRunFault, IsActed, IsActFault, IsSet, IsCleared, IsNoBreak};
+ghost use Rattle.jc_debug.specs.Moves.{IsNextHalted, IsHalted, IsMoveFault, IsTraceOf, RunMoves, IsRunFault, IsActed, IsActFault, IsSet, IsCleared, IsNoBreak};
 ghost use Rattle.jc_debug.specs.DebuggerState.{IsNetworkAt, Names, NamesAt, IsFree, IsLeast, HasRule, new_session};
 ghost use Rattle.jc_debug.specs.Invariant.{IsDebugger, IsMoved, start_of, session_of, placed_in};
 
-use crate::breaks::{Break, BreakFault};
-use crate::fault::{ActFault, DebugRunFault, DebugStepFault, GotoFault, Halt, RunEnd};
+use crate::breaks::Break;
+use crate::fault::{DebugFault, Halt, RunEnd};
 use crate::traces::Traces;
-use jc_network::{Net, StartFault, StepFault};
+use jc_network::{Net, StepFault, Unstarted};
 use jc_rules::limits::{MAX_BREAKS, MAX_EVENTS};
-use jc_rules::{Event, Rule};
+use jc_rules::{Event, Refusal, Rule};
 use jc_scenario::Scenario;
 use std::alloc::Global;
 use std::marker::Model;
@@ -60,25 +53,15 @@ impl Debugger {
     /// Makes a debugger at the start of the scenario, without breakpoints. It takes over the scenario's names, scripts
     /// and schedule.
     ///
-    /// Refused: `Given`, with the first given event that is stuck, where the scenario has no start; else want of
-    /// memory.
-    pub fn new(alloc: Global, scenario: Scenario) -> Result<Self, StartFault>
+    /// Refused: `Given`, with the first given event that is stuck and the scenario's names, where the scenario has no
+    /// start; else want of memory.
+    pub fn new(alloc: Global, scenario: Scenario) -> Result<Self, Unstarted>
         requires { IsWellFormedScenario (scenario_view scenario) }
         ensures net { IfOk result (λ debugger. IsStarted (scenario_view scenario) debugger.net) }
         ensures session { IfOk result (λ debugger. session_of debugger ≡ new_session scenario.schedule.items) }
-        ensures given { (at : ℕ) (s : AnyStuck) → IsErrOf result (Start.Given at s)
-            → IsGivenFault (before_given (scenario_view scenario)) (scenario_view scenario).given at s }
+        ensures unstarted { IfErr result (IsUnstartedFault (scenario_view scenario)) }
     {
-        let Scenario {
-            version,
-            names,
-            scripts,
-            given,
-            schedule,
-        } = scenario;
-        let mut net = Net::before_given(alloc, version, names, scripts)?;
-        net.lead(&given)?;
-        net.begin();
+        let (net, schedule) = Net::of(alloc, scenario)?;
         Ok(Debugger {
             net,
             schedule,
@@ -125,17 +108,18 @@ impl Debugger {
 
     /// Makes the next n events. It is refused with `AtEnd` where the schedule has fewer left, and then nothing moves.
     /// After another refusal the debugger is before the event that is stuck, or for which there was no memory.
-    pub fn step(&mut self, n: u64) -> Result<(), DebugStepFault>
+    pub fn step(&mut self, n: u64) -> Result<(), DebugFault>
         ensures ok { OnOk result (IsMoved self.old self.new (length self.old.traces + n)) }
-        ensures end { IsErrOf result S.AtEnd ↔ (length self.old.schedule < length self.old.traces + n) }
-        ensures err { IfErr result (IsStepFault self.old self.new (length self.old.traces + n)) }
+        ensures end { IsErrOf result (DebugFault.Refused Refusal.AtEnd)
+            ↔ (length self.old.schedule < length self.old.traces + n) }
+        ensures err { IfErr result (IsMoveFault Refusal.AtEnd self.old self.new (length self.old.traces + n)) }
     {
         if n > self.events() - self.position() {
-            return Err(DebugStepFault::AtEnd);
+            return Err(DebugFault::Refused(Refusal::AtEnd));
         }
         match self.advance(n) {
             Ok(()) => Ok(()),
-            Err(halt) => Err(DebugStepFault::from(halt)),
+            Err(halt) => Err(DebugFault::from(halt)),
         }
     }
 
@@ -157,15 +141,15 @@ impl Debugger {
     /// Goes to position n. It is refused with `PastSchedule` where the schedule is shorter, and then nothing moves. On
     /// the way forward, after another refusal, it is before the event that is stuck, or for which there was no memory.
     /// The way back takes no memory and isn't refused.
-    pub fn goto(&mut self, n: u64) -> Result<(), GotoFault>
+    pub fn goto(&mut self, n: u64) -> Result<(), DebugFault>
         ensures ok { OnOk result (IsMoved self.old self.new n) }
-        ensures past { IsErrOf result G.PastSchedule ↔ (length self.old.schedule < n) }
-        ensures err { IfErr result (IsGotoFault self.old self.new n) }
+        ensures past { IsErrOf result (DebugFault.Refused Refusal.PastSchedule) ↔ (length self.old.schedule < n) }
+        ensures err { IfErr result (IsMoveFault Refusal.PastSchedule self.old self.new n) }
         ensures back { n ≤ length self.old.traces → IsOk result }
     {
         let here = self.position();
         if n > self.events() {
-            return Err(GotoFault::PastSchedule);
+            return Err(DebugFault::Refused(Refusal::PastSchedule));
         }
         if n <= here {
             let _ = self.back(here - n);
@@ -173,28 +157,29 @@ impl Debugger {
         }
         match self.advance(n - here) {
             Ok(()) => Ok(()),
-            Err(halt) => Err(GotoFault::from(halt)),
+            Err(halt) => Err(DebugFault::from(halt)),
         }
     }
 
     /// Makes events up to the first of: a later position that a breakpoint names, an event that is stuck, the
     /// schedule's end. It is refused with `AtEnd` where it is at the end already. Where there was no memory it is
     /// before the event that wasn't made.
-    pub fn run(&mut self) -> Result<RunEnd, DebugRunFault>
+    pub fn run(&mut self) -> Result<RunEnd, DebugFault>
         ensures ok { IfOk result (RunMoves self.old self.new) }
-        ensures end { IsErrOf result R.AtEnd ↔ (length self.old.traces ≡ length self.old.schedule) }
-        ensures err { IfErr result (IsDebugRunFault self.old self.new) }
+        ensures end { IsErrOf result (DebugFault.Refused Refusal.AtEnd)
+            ↔ (length self.old.traces ≡ length self.old.schedule) }
+        ensures err { IfErr result (IsRunFault self.old self.new) }
     {
         let here = self.position();
         let end = self.events();
         if here == end {
-            return Err(DebugRunFault::AtEnd);
+            return Err(DebugFault::Refused(Refusal::AtEnd));
         }
         for _position in here..end {
             match self.forward() {
                 Ok(()) => {}
                 Err(Halt::Stuck(stuck)) => return Ok(RunEnd::Stuck(stuck)),
-                Err(Halt::Memory { at: _ }) => return Err(DebugRunFault::Memory),
+                Err(Halt::Memory { at: _ }) => return Err(DebugFault::Memory),
             }
             if let Some(j) = self.named() {
                 return Ok(RunEnd::Break(j as u16 + 1));
@@ -206,28 +191,29 @@ impl Debugger {
     /// Makes an event of the caller's: the schedule is cut at the position, and the event is appended. Refused, in this
     /// order: `TooManyEvents` at position `MAX_EVENTS`, then `Stuck` or want of memory. After a refusal nothing has
     /// changed.
-    pub fn act(&mut self, event: &Event) -> Result<(), ActFault>
+    pub fn act(&mut self, event: &Event) -> Result<(), DebugFault>
         ensures ok { OnOk result (IsActed self.old self.new event.now) }
-        ensures full { IsErrOf result A.TooManyEvents ↔ (length self.old.traces ≡ MAX_EVENTS) }
+        ensures full { IsErrOf result (DebugFault.Refused Refusal.TooManyEvents)
+            ↔ (length self.old.traces ≡ MAX_EVENTS) }
         ensures stuck { IfErr result (IsActFault self.old event.now) }
         ensures kept { OnErr result (self.new ≡ self.old) }
     {
         let here = self.traces.len();
         if here >= MAX_EVENTS {
-            return Err(ActFault::TooManyEvents);
+            return Err(DebugFault::Refused(Refusal::TooManyEvents));
         }
         if self.schedule.reserve(1).is_err() {
-            return Err(ActFault::Memory);
+            return Err(DebugFault::Memory);
         }
         let trace = match self.net.step(event) {
             Ok(trace) => trace,
             Err(StepFault::Full) => unreachable!(),
-            Err(StepFault::Stuck(stuck)) => return Err(ActFault::Stuck(stuck)),
-            Err(StepFault::Memory) => return Err(ActFault::Memory),
+            Err(StepFault::Stuck(stuck)) => return Err(DebugFault::Stuck(stuck)),
+            Err(StepFault::Memory) => return Err(DebugFault::Memory),
         };
         if self.traces.push(&trace).is_err() {
             let _ = self.net.undo();
-            return Err(ActFault::Memory);
+            return Err(DebugFault::Memory);
         }
         self.schedule.truncate(here);
         self.schedule.push(*event).unwrap();
@@ -238,29 +224,28 @@ impl Debugger {
 
     /// Sets a breakpoint that names position n. It gets the least number from 1 to `MAX_BREAKS` that is free, and is
     /// refused where none is. It takes no memory, nor do the next two.
-    pub fn break_at(&mut self, n: u64) -> Result<u16, BreakFault>
-        ensures set { IsSet self.old self.new (Kind.Position n) result }
-        ensures kind { result ≢ Err B.NoSuchReplica }
+    pub fn break_at(&mut self, n: u64) -> Result<u16, DebugFault>
+        ensures { IsSet self.old self.new (Kind.Position n) result }
     {
         self.set(Break::Position(n))
     }
 
     /// Sets a breakpoint that names each position whose event has the rule in its trace.
-    pub fn break_rule(&mut self, rule: Rule) -> Result<u16, BreakFault>
-        ensures set { IsSet self.old self.new (Kind.Rule rule) result }
-        ensures kind { result ≢ Err B.NoSuchReplica }
+    pub fn break_rule(&mut self, rule: Rule) -> Result<u16, DebugFault>
+        ensures { IsSet self.old self.new (Kind.Rule rule) result }
     {
         self.set(Break::Rule(rule))
     }
 
     /// Sets a breakpoint that names each position whose event is of replica p. Refused, in this order: where there is
     /// no such replica, then where no number is free.
-    pub fn break_replica(&mut self, p: u16) -> Result<u16, BreakFault>
-        ensures set { IsSet self.old self.new (Kind.Replica p) result }
-        ensures missing { IsErrOf result B.NoSuchReplica ↔ (length self.old.net.names ≤ p) }
+    pub fn break_replica(&mut self, p: u16) -> Result<u16, DebugFault>
+        ensures set { p < length self.old.net.names → IsSet self.old self.new (Kind.Replica p) result }
+        ensures missing { IsErrOf result (DebugFault.Refused Refusal.NoSuchReplica) ↔ (length self.old.net.names ≤ p) }
+        ensures kept { OnErr result (self.new ≡ self.old) }
     {
         if self.replicas() <= p as usize {
-            return Err(BreakFault::NoSuchReplica);
+            return Err(DebugFault::Refused(Refusal::NoSuchReplica));
         }
         self.set(Break::Replica(p))
     }
@@ -419,16 +404,15 @@ impl Debugger {
     }
 
     /// Puts a breakpoint at the least free place, and returns its number.
-    fn set(&mut self, b: Break) -> Result<u16, BreakFault>
-        ensures set { IsSet self.old self.new b result }
-        ensures kind { result ≢ Err B.NoSuchReplica }
+    fn set(&mut self, b: Break) -> Result<u16, DebugFault>
+        ensures { IsSet self.old self.new b result }
     {
         match self.free() {
             Some(j) => {
                 self.put(j, Some(b));
                 Ok(j as u16 + 1)
             }
-            None => Err(BreakFault::TooManyBreaks),
+            None => Err(DebugFault::Refused(Refusal::TooManyBreaks)),
         }
     }
 

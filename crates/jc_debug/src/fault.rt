@@ -1,8 +1,9 @@
-//! How the calls of a debugger end: the refusals of each call, and the ends of runs.
+//! How the calls of a debugger end: their faults, and the ends of runs.
 
 ghost use Rattle.std.specs.Prelude.{◌≡◌, IfOk};
 
 use jc_network::Stuck;
+use jc_rules::Refusal;
 use std::alloc::AllocError;
 
 /// Why the next event wasn't made.
@@ -13,78 +14,40 @@ pub(crate) enum Halt {
     Memory { at: u64 },
 }
 
-/// Why a step didn't make all events.
+/// Why a call didn't do what was asked for. The contract of each says which of these it can return.
 #[derive(Drop)]
-pub enum DebugStepFault {
-    /// The schedule has fewer events left. Nothing moved.
-    AtEnd,
-    /// The next event can't be made.
+pub enum DebugFault {
+    /// It is refused, and nothing changed.
+    Refused(Refusal),
+    /// The event that was to be made next can't be made.
     Stuck(Stuck),
-    /// There was no memory for the next event.
+    /// There was no memory for that event.
     Memory,
 }
 
-impl DebugStepFault {
+impl DebugFault {
     /// A copy.
     pub fn copy(&self) -> Result<Self, AllocError>
         ensures { IfOk result (λ fault. fault ≡ self.now) }
     {
         match self {
-            DebugStepFault::AtEnd => Ok(DebugStepFault::AtEnd),
-            DebugStepFault::Stuck(stuck) => Ok(DebugStepFault::Stuck(stuck.copy()?)),
-            DebugStepFault::Memory => Ok(DebugStepFault::Memory),
+            DebugFault::Refused(refusal) => Ok(DebugFault::Refused(*refusal)),
+            DebugFault::Stuck(stuck) => Ok(DebugFault::Stuck(stuck.copy()?)),
+            DebugFault::Memory => Ok(DebugFault::Memory),
         }
     }
 }
 
-impl From<Halt> for DebugStepFault {
+impl From<Halt> for DebugFault {
     ghost use Rattle.std.specs.Prelude.{◌≡◌};
-    ghost use Rattle.jc_debug.specs.Moves.{step_fault};
+    ghost use Rattle.jc_debug.specs.Moves.{halt_fault};
 
-    ghost from_gives = { λ halt fault. fault ≡ step_fault halt };
+    ghost from_gives = { λ halt fault. fault ≡ halt_fault halt };
 
     fn from(halt: Halt) -> Self {
         match halt {
-            Halt::Stuck(stuck) => DebugStepFault::Stuck(stuck),
-            Halt::Memory { at: _ } => DebugStepFault::Memory,
-        }
-    }
-}
-
-/// Why the debugger didn't get to a position.
-#[derive(Drop)]
-pub enum GotoFault {
-    /// The schedule is shorter. Nothing moved.
-    PastSchedule,
-    /// The next event can't be made.
-    Stuck(Stuck),
-    /// There was no memory for the next event.
-    Memory,
-}
-
-impl GotoFault {
-    /// A copy.
-    pub fn copy(&self) -> Result<Self, AllocError>
-        ensures { IfOk result (λ fault. fault ≡ self.now) }
-    {
-        match self {
-            GotoFault::PastSchedule => Ok(GotoFault::PastSchedule),
-            GotoFault::Stuck(stuck) => Ok(GotoFault::Stuck(stuck.copy()?)),
-            GotoFault::Memory => Ok(GotoFault::Memory),
-        }
-    }
-}
-
-impl From<Halt> for GotoFault {
-    ghost use Rattle.std.specs.Prelude.{◌≡◌};
-    ghost use Rattle.jc_debug.specs.Moves.{goto_fault};
-
-    ghost from_gives = { λ halt fault. fault ≡ goto_fault halt };
-
-    fn from(halt: Halt) -> Self {
-        match halt {
-            Halt::Stuck(stuck) => GotoFault::Stuck(stuck),
-            Halt::Memory { at: _ } => GotoFault::Memory,
+            Halt::Stuck(stuck) => DebugFault::Stuck(stuck),
+            Halt::Memory { at: _ } => DebugFault::Memory,
         }
     }
 }
@@ -109,39 +72,6 @@ impl RunEnd {
             RunEnd::Break(k) => Ok(RunEnd::Break(*k)),
             RunEnd::Stuck(stuck) => Ok(RunEnd::Stuck(stuck.copy()?)),
             RunEnd::End => Ok(RunEnd::End),
-        }
-    }
-}
-
-/// Why a run didn't start or go on.
-#[derive(Clone, Copy)]
-pub enum DebugRunFault {
-    /// No event was left. Nothing moved.
-    AtEnd,
-    /// There was no memory for the next event.
-    Memory,
-}
-
-/// Why a caller's event wasn't made. Nothing moved, and the schedule wasn't cut.
-#[derive(Drop)]
-pub enum ActFault {
-    /// The position is `MAX_EVENTS`.
-    TooManyEvents,
-    /// The event can't be made.
-    Stuck(Stuck),
-    /// There was no memory.
-    Memory,
-}
-
-impl ActFault {
-    /// A copy.
-    pub fn copy(&self) -> Result<Self, AllocError>
-        ensures { IfOk result (λ fault. fault ≡ self.now) }
-    {
-        match self {
-            ActFault::TooManyEvents => Ok(ActFault::TooManyEvents),
-            ActFault::Stuck(stuck) => Ok(ActFault::Stuck(stuck.copy()?)),
-            ActFault::Memory => Ok(ActFault::Memory),
         }
     }
 }

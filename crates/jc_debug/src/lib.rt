@@ -8,6 +8,6 @@ mod fault;
 pub mod laws;
 mod traces;
 
-pub use breaks::{Break, BreakFault};
+pub use breaks::Break;
 pub use debugger::Debugger;
-pub use fault::{ActFault, DebugRunFault, DebugStepFault, GotoFault, RunEnd};
+pub use fault::{DebugFault, RunEnd};

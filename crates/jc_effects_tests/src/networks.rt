@@ -10,7 +10,7 @@ use jc_effects::Effects;
 use jc_journal::{Before, event_effects};
 use jc_network::Net;
 use jc_rules::Event;
-use jc_scenario::{Scenario, copy_names, copy_scripts};
+use jc_scenario::Scenario;
 use std::alloc::{AllocError, Global};
 use std::process::Abort;
 
@@ -25,9 +25,7 @@ fn after(
     requires few { length events.now ≤ 100 }
     ensures { IfOk result (λ net. AfterIn (before_given (scenario_view scenario.now)) events.now net.history.now) }
 {
-    let names = copy_names(alloc, &scenario.names)?;
-    let scripts = copy_scripts(alloc, &scenario.scripts)?;
-    let mut net = Net::before_given(alloc, scenario.version, names, scripts)?;
+    let mut net = Net::first(alloc, scenario)?;
     match net.lead(events) {
         Ok(()) => Ok(net),
         Err(_) => panic!(rt; "an event is refused"),

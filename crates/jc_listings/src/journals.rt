@@ -21,7 +21,6 @@ use crate::events::AllEvents;
 use jc_answers::{ArrayText, unended};
 use jc_effects::Effects;
 use jc_journal::{Before, NumberedEvent, event_effects, event_line, stuck_line};
-use jc_looks::first_network;
 use jc_network::{Net, StepFault, Stuck};
 use jc_rules::{Event, Rule, Trace};
 use jc_scenario::Scenario;
@@ -155,8 +154,8 @@ impl Networks {
         ensures { IfOk result (λ networks. (schedule : List AnyEvent)
             → AreBehind (scenario_view scenario.now) schedule 0 networks) }
     {
-        let first = first_network(alloc, scenario)?;
-        let second = first_network(alloc, scenario)?;
+        let first = Net::first(alloc, scenario)?;
+        let second = Net::first(alloc, scenario)?;
         Ok(Networks { first, second })
     }
 

@@ -9,5 +9,5 @@ mod values;
 
 pub use fault::{LookFault, flag, refused_at, refused_with};
 pub use looks::{Look, shown, state_of, states};
-pub use networks::{first_network, given_network};
+pub use networks::given_network;
 pub use values::value_of;

@@ -4,22 +4,11 @@ ghost use Rattle.std.specs.Prelude.{◌≡◌, ◌≤◌, length, take, IfOk};
 ghost use Rattle.jc_rules.specs.Step.{Network as AnyNetwork, AfterIn};
 ghost use Rattle.jc_scenario.specs.WellFormed.{IsWellFormedScenario};
 ghost use Rattle.jc_scenario.specs.Views.{scenario_view};
-ghost use Rattle.jc_network.specs.Given.{before_given, IsBeforeGiven};
+ghost use Rattle.jc_network.specs.Given.{before_given};
 
 use jc_network::{Net, StartFault};
-use jc_scenario::{Scenario, copy_names, copy_scripts};
+use jc_scenario::Scenario;
 use std::alloc::{AllocError, Global};
-
-/// The network before the events of a scenario.
-pub fn first_network(alloc: Global, scenario: &Scenario) -> Result<Net, AllocError>
-    requires { IsWellFormedScenario (scenario_view scenario.now) }
-    ensures { IfOk result (λ net. IsBeforeGiven (scenario_view scenario.now).version (scenario_view scenario.now).names
-        (scenario_view scenario.now).scripts net) }
-{
-    let names = copy_names(alloc, &scenario.names)?;
-    let scripts = copy_scripts(alloc, &scenario.scripts)?;
-    Net::before_given(alloc, scenario.version, names, scripts)
-}
 
 /// The network to which the first events of those that are given lead.
 pub fn given_network(alloc: Global, scenario: &Scenario, count: usize) -> Result<Net, AllocError>
@@ -32,7 +21,7 @@ pub fn given_network(alloc: Global, scenario: &Scenario, count: usize) -> Result
         (take count (scenario_view scenario.now).given) net.history.now) }
     ensures names { IfOk result (λ net. net.names ≡ (scenario_view scenario.now).names) }
 {
-    let mut net = first_network(alloc, scenario)?;
+    let mut net = Net::first(alloc, scenario)?;
     match net.lead(&scenario.given[..count]) {
         Ok(()) => {}
         Err(StartFault::Memory) => return Err(AllocError),

@@ -5,7 +5,7 @@ ghost use Rattle.jc_scenario.specs.Views.{scenario_view};
 ghost use Rattle.jc_scenario.specs.WellFormed.{IsWellFormedScenario};
 ghost use Rattle.jc_looks.specs.Looks.{IsWithin};
 
-use jc_looks::{Look, LookFault, first_network, given_network, shown};
+use jc_looks::{Look, LookFault, given_network, shown};
 use jc_network::Net;
 use jc_parser::parse_expr;
 use jc_scenario::{Scenario, read};
@@ -247,7 +247,7 @@ fn network_at(
     requires { IsWellFormedScenario (scenario_view scenario.now) }
 {
     assert!(rt; count <= scenario.given.len());
-    let mut net = first_network(alloc, scenario)?;
+    let mut net = Net::first(alloc, scenario)?;
     let led = net.lead(&scenario.given[..count]);
     assert!(rt; led.is_ok());
     given_network(alloc, scenario, count)

@@ -6,7 +6,7 @@ ghost use Rattle.jc_scenario.specs.Views.{scenario_view};
 use crate::attempts::{Attempt, MOST, Outcome, done_if, holds, is_done, refusals};
 use crate::memory::{SPARE, UNIT, fill, leave};
 use crate::rows::{DEEP, DELETION, INSERTS, TOMBSTONE, dumps, has_dumps, scene};
-use jc_debug::{ActFault, DebugRunFault, DebugStepFault, Debugger, GotoFault, RunEnd};
+use jc_debug::{DebugFault, Debugger, RunEnd};
 use jc_rules::{Event, Id};
 use jc_scenario::Scenario;
 use std::alloc::{AllocError, Global};
@@ -112,7 +112,7 @@ enum Move {
 fn step(debugger: &mut Debugger, n: u64) -> Outcome {
     match debugger.step(n) {
         Ok(()) => Outcome::Done,
-        Err(DebugStepFault::Memory) => Outcome::Refused,
+        Err(DebugFault::Memory) => Outcome::Refused,
         Err(_) => Outcome::Wrong,
     }
 }
@@ -120,7 +120,7 @@ fn step(debugger: &mut Debugger, n: u64) -> Outcome {
 fn goto(debugger: &mut Debugger, n: u64) -> Outcome {
     match debugger.goto(n) {
         Ok(()) => Outcome::Done,
-        Err(GotoFault::Memory) => Outcome::Refused,
+        Err(DebugFault::Memory) => Outcome::Refused,
         Err(_) => Outcome::Wrong,
     }
 }
@@ -128,7 +128,7 @@ fn goto(debugger: &mut Debugger, n: u64) -> Outcome {
 fn run(debugger: &mut Debugger) -> Outcome {
     match debugger.run() {
         Ok(RunEnd::End) | Ok(RunEnd::Stuck(_)) => Outcome::Done,
-        Err(DebugRunFault::Memory) => Outcome::Refused,
+        Err(DebugFault::Memory) => Outcome::Refused,
         _ => Outcome::Wrong,
     }
 }
@@ -136,7 +136,7 @@ fn run(debugger: &mut Debugger) -> Outcome {
 fn act(debugger: &mut Debugger, event: &Event) -> Outcome {
     match debugger.act(event) {
         Ok(()) => Outcome::Done,
-        Err(ActFault::Memory) => Outcome::Refused,
+        Err(DebugFault::Memory) => Outcome::Refused,
         Err(_) => Outcome::Wrong,
     }
 }

@@ -1,5 +1,7 @@
 -- Lemmas about Given: given events lead from one network to another, and aren't passed on the way back.
 use Rattle.std.proofs.Common.{◌≡◌, ℕ, ◌+◌, ◌<◌, ◌≤◌, Result, Err, Some, Bool, true, false, IsTrue, IsFalse, zero, suc, map, slice_get, unwrap_or, drop, set, List, [], ◌∷◌, ◌++◌, length, take, get_or, refl, sym, ◌∙◌, ap, subst, arith}
+use Rattle.std.specs.declared.alloc.Global.{Global}
+use Rattle.std.specs.declared.vec.Vec.{Vec}
 use Rattle.std.proofs.lemmas.Grind.{common_steps}
 use Rattle.std.proofs.lemmas.List.{take_more, take_all, length-map}
 use Rattle.std.proofs.lemmas.Option.{slice_get-get_or}
@@ -18,9 +20,11 @@ use Rattle.jc_network.specs.declared.fault.StartFault.TheVariants as S
 use Rattle.jc_network.specs.declared.fault.StepFault.{StepFault}
 use Rattle.jc_network.specs.declared.fault.StepFault.TheVariants as E
 use Rattle.jc_network.specs.declared.fault.Stuck.{Stuck}
+use Rattle.jc_network.specs.declared.fault.Unstarted.{Unstarted}
+use Rattle.jc_network.specs.declared.fault.Unstarted.TheVariants as U
 use Rattle.jc_network.specs.Abstract.{real}
 use Rattle.jc_network.specs.NetworkHistory.{NetworkHistory, StepsTo, begin_now, network_history_of, kept_of, network_of, of_version}
-use Rattle.jc_network.specs.Given.{before_given, AreParts, IsBeforeGiven, IsStart, IsStarted, IsGivenFault}
+use Rattle.jc_network.specs.Given.{before_given, AreParts, IsBeforeGiven, IsStart, IsStarted, IsGivenFault, IsUnstartedFault}
 use Rattle.jc_network.specs.Laws.{starts, IsReached}
 use Rattle.jc_network.specs.Steps.{IsStuckFor}
 use Rattle.jc_network.specs.Invariant.{IsInRun, IsNet}
@@ -51,6 +55,10 @@ has_started s first now last given before all led names is =
 pub has_stuck : (s : Scenario) (first : NetworkHistory) (given : List Event) (at : ℕ) (t : Stuck) → IsBeforeGiven s.version s.names s.scripts first → given ≡ s.given → IsGivenFault first.history.now given at t → IsGivenFault (before_given s) s.given at t
 has_stuck s first given at t before all h =
     subst (λ (N : Network). IsGivenFault N s.given at t) before.network (subst (λ (es : List Event). IsGivenFault first.history.now es at t) all h)
+
+-- as a fault has it, with the names
+pub told_given : (s : Scenario) (fault : Unstarted) (names : Vec (List ℕ) Global) (at : ℕ) (t : Stuck) → fault ≡ U.Given names at t → IsUnstartedFault s fault → (names.items ≡ s.names) × IsGivenFault (before_given s) s.given at t
+told_given s fault names at t is h = subst (λ (f : Unstarted). IsUnstartedFault s f) is h
 
 -- ---- the start of a scenario
 

@@ -7,6 +7,8 @@ use Rattle.jc_rules.specs.Step.{Network, AfterIn}
 use Rattle.jc_rules.specs.Syntax.{Cmd}
 use Rattle.jc_scenario.specs.WellFormed.{Scenario}
 use Rattle.jc_network.specs.declared.fault.Stuck.{Stuck}
+use Rattle.jc_network.specs.declared.fault.Unstarted.{Unstarted}
+use Rattle.jc_network.specs.declared.fault.Unstarted.TheVariants as U
 use Rattle.jc_network.specs.NetworkHistory.{NetworkHistory, of_version}
 use Rattle.jc_network.specs.Laws.{starts, IsReached}
 use Rattle.jc_network.specs.Refines.{AreShort}
@@ -54,6 +56,12 @@ pub record IsGivenFault (first : Network) (given : List Event) (at : ℕ) (s : S
   pub why : Cause
   pub is : s ≡ stuck_for why event
   pub stuck : IsGivenStuck first given at event why
+
+-- the first given event that is stuck and the scenario's names, or there was no memory
+abbrev pub IsUnstartedFault : Scenario → Unstarted → Type 0
+IsUnstartedFault s (U.Given names at stuck) =
+    (names.items ≡ s.names) × IsGivenFault (before_given s) s.given at stuck
+IsUnstartedFault s U.Memory = Unit {0}
 
 -- ---- laws
 

@@ -2,7 +2,7 @@
 
 ghost use Rattle.std.specs.Prelude.{◌≡◌, IfOk};
 
-use jc_rules::{Event, Refusal, Tagged};
+use jc_rules::{Event, Refusal, Tagged, Text};
 use std::alloc::AllocError;
 
 /// Why an event can't be made: the refusal of the first condition that fails and its number, the tagged key for 25
@@ -104,6 +104,29 @@ impl From<AllocError> for StartFault {
 
     fn from(_: AllocError) -> Self {
         StartFault::Memory
+    }
+}
+
+/// Why no network was started of a whole scenario.
+#[derive(Drop)]
+pub enum Unstarted {
+    /// 44: the given event of this number, from 1, is the first that is stuck. The names are the scenario's.
+    Given {
+        names: Vec<Text>,
+        at: u64,
+        stuck: Stuck,
+    },
+    /// There was no memory.
+    Memory,
+}
+
+impl From<AllocError> for Unstarted {
+    ghost use Rattle.jc_network.specs.declared.fault.Unstarted.TheVariants.{Memory as NoMemory};
+
+    ghost from_gives = { λ _ fault. fault ≡ NoMemory };
+
+    fn from(_: AllocError) -> Self {
+        Unstarted::Memory
     }
 }
 

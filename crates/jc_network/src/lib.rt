@@ -9,5 +9,5 @@ mod net;
 mod replicas;
 mod stepping;
 
-pub use fault::{CompareFault, StartFault, StepFault, Stuck};
+pub use fault::{CompareFault, StartFault, StepFault, Stuck, Unstarted};
 pub use net::Net;

@@ -1,6 +1,6 @@
 //! A network's type `Net`: its start, its steps and its way back. Runs, debuggers and dumps hold one.
 
-ghost use Rattle.std.specs.Prelude.{◌≡◌, ◌≤◌, ◌↔◌, [], length, slice_get, ℕ, IfOk, IfSome, OnOk, OnErr, IsErrOf, IsTrue, IsFalse, IfNone};
+ghost use Rattle.std.specs.Prelude.{◌≡◌, ◌≤◌, ◌↔◌, [], length, slice_get, ℕ, IfOk, IfErr, IfSome, OnOk, OnErr, IsErrOf, IsTrue, IsFalse, IfNone};
 ghost use Rattle.jc_rules.specs.declared.limits.TheConstants.{MAX_EVENTS, MAX_REPLICAS};
 ghost use Rattle.jc_scenario.specs.WellFormed.{IsWellFormedScenario};
 ghost use Rattle.jc_scenario.specs.Views.{scenario_view, scripts_view};
@@ -12,14 +12,14 @@ ghost use Rattle.jc_network.specs.Applied.{IsApplied, AreAppliedIds};
 ghost use Rattle.jc_rules.specs.History.{timeline, begun, first_of};
 ghost use Rattle.jc_network.specs.NetworkHistory.{StepsTo};
 ghost use Rattle.jc_network.specs.Enabled.{AreEnabled, candidates};
-ghost use Rattle.jc_network.specs.Given.{before_given, AreParts, IsBeforeGiven, IsStarted, IsGivenFault};
+ghost use Rattle.jc_network.specs.Given.{before_given, AreParts, IsBeforeGiven, IsStarted, IsGivenFault, IsUnstartedFault};
 ghost use Rattle.jc_network.specs.Steps.{IsStuckFor, HasReplica};
 ghost use Rattle.jc_network.specs.Invariant.{IsFromStart, HasBegun};
 ghost use Rattle.jc_rules.specs.Step.{AfterIn};
 
 use crate::applied::{applied_ids_of, applied_of};
 use crate::enabled::enabled_in;
-use crate::fault::{CompareFault, StartFault, StepFault};
+use crate::fault::{CompareFault, StartFault, StepFault, Unstarted};
 use crate::replicas::{begin_all, replicas_of};
 use crate::stepping::make;
 use jc_replica::Replica;
@@ -68,12 +68,52 @@ impl Net {
         ensures given { (at : ℕ) (s : AnyStuck) → IsErrOf result (S.Given at s)
             → IsGivenFault (before_given (scenario_view scenario.now)) (scenario_view scenario.now).given at s }
     {
-        let names = copy_names(alloc, &scenario.names)?;
-        let scripts = copy_scripts(alloc, &scenario.scripts)?;
-        let mut net = Net::before_given(alloc, scenario.version, names, scripts)?;
+        let mut net = Net::first(alloc, scenario)?;
         net.lead(&scenario.given)?;
         net.begin();
         Ok(net)
+    }
+
+    /// The network at the start of the scenario, as `start` makes it, and the scenario's schedule. Nothing is copied.
+    ///
+    /// It is refused with `Given` exactly where no network is the start, and gives the names back.
+    pub fn of(alloc: Global, scenario: Scenario) -> Result<(Self, Vec<Event>), Unstarted>
+        requires { IsWellFormedScenario (scenario_view scenario) }
+        ensures started { IfOk result (λ r. IsStarted (scenario_view scenario) r.0) }
+        ensures schedule { IfOk result (λ r. r.1.items ≡ scenario.schedule.items) }
+        ensures unstarted { IfErr result (IsUnstartedFault (scenario_view scenario)) }
+    {
+        let Scenario {
+            version,
+            names,
+            scripts,
+            given,
+            schedule,
+        } = scenario;
+        let mut net = Net::before_given(alloc, version, names, scripts)?;
+        match net.lead(&given) {
+            Ok(()) => {
+                net.begin();
+                Ok((net, schedule))
+            }
+            Err(StartFault::Given { at, stuck }) => Err(Unstarted::Given {
+                names: net.into_names(),
+                at,
+                stuck,
+            }),
+            Err(StartFault::Memory) => Err(Unstarted::Memory),
+        }
+    }
+
+    /// The network before the given events of the scenario, with copies of its names and scripts.
+    pub fn first(alloc: Global, scenario: &Scenario) -> Result<Self, AllocError>
+        requires { IsWellFormedScenario (scenario_view scenario.now) }
+        ensures { IfOk result (λ net. IsBeforeGiven (scenario_view scenario.now).version
+            (scenario_view scenario.now).names (scenario_view scenario.now).scripts net) }
+    {
+        let names = copy_names(alloc, &scenario.names)?;
+        let scripts = copy_scripts(alloc, &scenario.scripts)?;
+        Net::before_given(alloc, scenario.version, names, scripts)
     }
 
     /// The network before the given events of a scenario in this version, with these names and scripts: each replica
@@ -146,6 +186,13 @@ impl Net {
         ensures few { length self.now.names ≤ MAX_REPLICAS }
     {
         self.names.as_slice()
+    }
+
+    /// The names, and the network isn't needed any more.
+    fn into_names(self) -> Vec<Text>
+        ensures { result.items ≡ self.names }
+    {
+        self.names
     }
 
     /// The version of the scenario, which no step changes.

@@ -1,7 +1,7 @@
 //! Tests of the copies of faults: those of networks and of debuggers.
 
 use crate::nets::{after, holds, scene};
-use jc_debug::{ActFault, DebugStepFault, Debugger, GotoFault, RunEnd};
+use jc_debug::{DebugFault, Debugger, RunEnd};
 use jc_network::{StepFault, Stuck};
 use jc_rules::Event;
 use std::alloc::{AllocError, Global};
@@ -26,23 +26,9 @@ fn is_net_fault_copied(fault: &StepFault) -> Result<bool, AllocError> {
     }
 }
 
-fn is_step_fault_copied(fault: &DebugStepFault) -> Result<bool, AllocError> {
+fn is_debug_fault_copied(fault: &DebugFault) -> Result<bool, AllocError> {
     match (fault, &fault.copy()?) {
-        (DebugStepFault::Stuck(stuck), DebugStepFault::Stuck(copy)) => Ok(are_alike(stuck, copy)),
-        _ => Ok(false),
-    }
-}
-
-fn is_goto_fault_copied(fault: &GotoFault) -> Result<bool, AllocError> {
-    match (fault, &fault.copy()?) {
-        (GotoFault::Stuck(stuck), GotoFault::Stuck(copy)) => Ok(are_alike(stuck, copy)),
-        _ => Ok(false),
-    }
-}
-
-fn is_act_fault_copied(fault: &ActFault) -> Result<bool, AllocError> {
-    match (fault, &fault.copy()?) {
-        (ActFault::Stuck(stuck), ActFault::Stuck(copy)) => Ok(are_alike(stuck, copy)),
+        (DebugFault::Stuck(stuck), DebugFault::Stuck(copy)) => Ok(are_alike(stuck, copy)),
         _ => Ok(false),
     }
 }
@@ -74,11 +60,11 @@ fn begun(rt: &impl Abort, alloc: Global) -> Result<Debugger, Fail> {
 fn are_moves_copied(debugger: &mut Debugger) -> Result<bool, AllocError> {
     let stepped = match debugger.step(1) {
         Ok(()) => false,
-        Err(fault) => is_step_fault_copied(&fault)?,
+        Err(fault) => is_debug_fault_copied(&fault)?,
     };
     let gone = match debugger.goto(1) {
         Ok(()) => false,
-        Err(fault) => is_goto_fault_copied(&fault)?,
+        Err(fault) => is_debug_fault_copied(&fault)?,
     };
     Ok(stepped && gone)
 }
@@ -90,7 +76,7 @@ fn are_ends_copied(debugger: &mut Debugger) -> Result<bool, AllocError> {
     };
     let acted = match debugger.act(&Event::Exec(0)) {
         Ok(()) => false,
-        Err(fault) => is_act_fault_copied(&fault)?,
+        Err(fault) => is_debug_fault_copied(&fault)?,
     };
     Ok(ran && acted)
 }

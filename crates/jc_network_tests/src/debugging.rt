@@ -1,8 +1,8 @@
 //! Tests of calls of the debugger that no session shows: replicas by their numbers, and a debugger at its limits.
 
 use crate::nets::{STUCK_GIVEN, YIELD, holds, scene};
-use jc_debug::{ActFault, BreakFault, Debugger, GotoFault};
-use jc_network::StartFault;
+use jc_debug::{DebugFault, Debugger};
+use jc_network::Unstarted;
 use jc_rules::{Event, Rule};
 use std::alloc::Global;
 use std::process::Abort;
@@ -16,30 +16,33 @@ fn begun(rt: &impl Abort, alloc: Global, text: &str) -> Result<Debugger, Fail> {
 
 // ---- outcomes as numbers: 0, the number of a refusal, or 255 for want of memory
 
+fn fault_of(fault: &DebugFault) -> u8 {
+    match fault {
+        DebugFault::Refused(refusal) => refusal.number(),
+        DebugFault::Stuck(stuck) => stuck.number,
+        DebugFault::Memory => 255,
+    }
+}
+
 fn act(debugger: &mut Debugger, event: &Event) -> u8 {
     match debugger.act(event) {
         Ok(()) => 0,
-        Err(ActFault::TooManyEvents) => 19,
-        Err(ActFault::Stuck(stuck)) => stuck.number,
-        Err(ActFault::Memory) => 255,
+        Err(fault) => fault_of(&fault),
     }
 }
 
 fn goto(debugger: &mut Debugger, n: u64) -> u8 {
     match debugger.goto(n) {
         Ok(()) => 0,
-        Err(GotoFault::PastSchedule) => 52,
-        Err(GotoFault::Stuck(stuck)) => stuck.number,
-        Err(GotoFault::Memory) => 255,
+        Err(fault) => fault_of(&fault),
     }
 }
 
 /// The number of a new breakpoint, or 1000 and that of the refusal.
-fn break_of(answer: Result<u16, BreakFault>) -> u16 {
+fn break_of(answer: Result<u16, DebugFault>) -> u16 {
     match answer {
         Ok(k) => k,
-        Err(BreakFault::NoSuchReplica) => 1037,
-        Err(BreakFault::TooManyBreaks) => 1054,
+        Err(fault) => 1000 + u16::from(fault_of(&fault)),
     }
 }
 
@@ -128,7 +131,9 @@ fn all_numbers_are_taken(rt: HostRuntime) -> Result<(), Fail> {
 fn a_debugger_has_no_start(rt: HostRuntime) -> Result<(), Fail> {
     let scenario = scene(rt.alloc(), STUCK_GIVEN)?;
     match Debugger::new(rt.alloc(), scenario) {
-        Err(StartFault::Given { at, stuck }) => holds(&rt, at == 2 && stuck.number == 30),
+        Err(Unstarted::Given { names, at, stuck }) => {
+            holds(&rt, names.len() == 2 && at == 2 && stuck.number == 30)
+        }
         _ => panic!(rt; "a start"),
     }
     Ok(())

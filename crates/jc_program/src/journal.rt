@@ -25,7 +25,7 @@ use jc_journal::{Before, NumberedEvent, event_effects, event_line, stuck_line};
 use jc_network::{Net, StepFault, Stuck};
 use jc_out::Out;
 use jc_rules::{Event, Rule, Trace};
-use jc_scenario::{Scenario, copy_names, copy_scripts};
+use jc_scenario::Scenario;
 use std::alloc::{AllocError, Global};
 
 /// A network, and another one behind it where effects are asked for, which makes each event once the event's line is
@@ -189,9 +189,7 @@ fn network_behind(
     if !effects {
         return Ok(None);
     }
-    let names = copy_names(alloc, &scenario.names)?;
-    let scripts = copy_scripts(alloc, &scenario.scripts)?;
-    let net = Net::before_given(alloc, scenario.version, names, scripts)?;
+    let net = Net::first(alloc, scenario)?;
     Ok(Some(net))
 }
 

@@ -2,6 +2,7 @@
 use Rattle.std.proofs.Common.{◌≡◌, ℕ, suc, ◌+◌, ◌-◌, ◌<◌, ◌≤◌, List, [], length, take, slice_get, Option, Some, None, Ok, refl, sym, ap, subst, ◌∙◌, arith}
 use Rattle.std.specs.List.{All}
 use Rattle.jc_rules.specs.declared.operation.Event.{Event}
+use Rattle.jc_rules.specs.declared.refusal.Refusal.TheVariants as F
 use Rattle.jc_rules.specs.Refused.{Cause}
 use Rattle.jc_rules.specs.Step.{Network, AfterIn}
 use Rattle.jc_printer.specs.Canon.{AreNamed}
@@ -12,10 +13,10 @@ use Rattle.jc_network.specs.Given.{before_given}
 use Rattle.jc_network.specs.NetworkHistory.{NetworkHistory}
 use Rattle.jc_network.specs.Steps.{stuck_for}
 use Rattle.jc_dump.specs.Lines.{IsNamedStuck}
-use Rattle.jc_debug.specs.declared.fault.GotoFault.TheVariants as G
+use Rattle.jc_debug.specs.declared.fault.DebugFault.TheVariants as D
 use Rattle.jc_debug.specs.DebuggerState.{IsNetworkAt}
 use Rattle.jc_debug.specs.Invariant.{Seen, IsDebugger, IsMoved, start_of}
-use Rattle.jc_debug.specs.Moves.{IsGotoFault, IsToldAt}
+use Rattle.jc_debug.specs.Moves.{IsMoveFault, IsToldAt}
 use Rattle.jc_session.specs.AnswerOf.{AllNamed}
 use Rattle.jc_looks.specs.declared.looks.Look.{Look}
 use Rattle.jc_looks.specs.declared.looks.Look.TheVariants as L
@@ -74,7 +75,7 @@ module _ (s : Scenario) (start : Network) (x : AnyServed) (v : IsServing s start
 
   -- ---- moves that ended before an event
 
-  module _ (d e : Seen) (of : IsDebuggerOf s start d) (same : d.schedule ≡ x.here.schedule) (n : ℕ) (stuck : Stuck) (fault : IsGotoFault d e n (G.Stuck stuck)) where
+  module _ (d e : Seen) (of : IsDebuggerOf s start d) (same : d.schedule ≡ x.here.schedule) (n : ℕ) (stuck : Stuck) (fault : IsMoveFault F.PastSchedule d e n (D.Stuck stuck)) where
     pub ended : IsMoved d e fault.0
     ended = fault.1.moved
 

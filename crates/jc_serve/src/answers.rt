@@ -36,7 +36,7 @@ use crate::served::{Served, told_marks};
 use crate::subjects::{Subject, fault_answer};
 use crate::texts::{answered, counted, journal, quit_answer, stopped};
 use jc_answers::{quoted, refused, unended};
-use jc_debug::GotoFault;
+use jc_debug::DebugFault;
 use jc_effects::Effects;
 use jc_journal::{Before, NumberedEvent, event_effects, event_line};
 use jc_listings::{Details, line_behind, places, woven_answer};
@@ -191,12 +191,12 @@ impl Served {
     {
         match self.aside.goto(n) {
             Ok(()) => shown(alloc, self.aside.net(), look),
-            Err(GotoFault::Stuck(stuck)) => {
+            Err(DebugFault::Stuck(stuck)) => {
                 let given = self.scenario.given.as_slice();
                 Ok(stopped(alloc, &self.aside, given, stuck)?)
             }
-            Err(GotoFault::Memory) => Err(LookFault::Memory),
-            Err(GotoFault::PastSchedule) => unreachable!(),
+            Err(DebugFault::Memory) => Err(LookFault::Memory),
+            Err(_) => unreachable!(),
         }
     }
 
@@ -308,13 +308,13 @@ impl Served {
                 self.bring_aside(n - 1)?;
                 self.line_here(alloc, details)
             }
-            Err(GotoFault::Stuck(stuck)) => {
+            Err(DebugFault::Stuck(stuck)) => {
                 let given = self.scenario.given.as_slice();
                 let answer = stopped(alloc, &self.here, given, stuck)?;
                 Ok(answer)
             }
-            Err(GotoFault::Memory) => Err(AllocError),
-            Err(GotoFault::PastSchedule) => unreachable!(),
+            Err(DebugFault::Memory) => Err(AllocError),
+            Err(_) => unreachable!(),
         }
     }
 

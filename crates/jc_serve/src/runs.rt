@@ -17,7 +17,7 @@ ghost use Rattle.jc_serve.specs.Moves.{ArePaired, IsMovedTo, IsNamedBy, GoesForw
 use crate::marks::named;
 use crate::served::Served;
 use jc_answers::{Member, refused};
-use jc_debug::{DebugStepFault, RunEnd};
+use jc_debug::{DebugFault, RunEnd};
 use jc_replies::{answer_of, position_with};
 use jc_rules::Refusal;
 use jc_session::Reply;
@@ -68,9 +68,9 @@ impl Served {
     {
         match self.here.step(1) {
             Ok(()) => {}
-            Err(DebugStepFault::Stuck(stuck)) => return Ok(Some(RunEnd::Stuck(stuck))),
-            Err(DebugStepFault::Memory) => return Err(AllocError),
-            Err(DebugStepFault::AtEnd) => unreachable!(),
+            Err(DebugFault::Stuck(stuck)) => return Ok(Some(RunEnd::Stuck(stuck))),
+            Err(DebugFault::Memory) => return Err(AllocError),
+            Err(_) => unreachable!(),
         }
         match self.named_here(alloc)? {
             Some(place) => Ok(Some(RunEnd::Break(place as u16 + 1))),

@@ -20,7 +20,7 @@ use crate::stuck::GivenStop;
 use jc_answers::{Member, object_text};
 use jc_debug::Debugger;
 use jc_looks::{given_network, refused_at};
-use jc_network::{StartFault, Stuck};
+use jc_network::{Stuck, Unstarted};
 use jc_scenario::{Scenario, ScenarioFault, read};
 use jc_syntax::Cmd;
 use std::alloc::{AllocError, Global};
@@ -98,8 +98,14 @@ fn subject_of_scenario(alloc: Global, scenario: Scenario) -> Result<Subject, All
 {
     match Debugger::new(alloc, scenario.copy()?) {
         Ok(here) => served(alloc, scenario, here),
-        Err(StartFault::Given { at, stuck }) => given_stop(alloc, scenario, at, stuck),
-        Err(StartFault::Memory) => Err(AllocError),
+        Err(
+            Unstarted::Given {
+                names: _,
+                at,
+                stuck,
+            },
+        ) => given_stop(alloc, scenario, at, stuck),
+        Err(Unstarted::Memory) => Err(AllocError),
     }
 }
 

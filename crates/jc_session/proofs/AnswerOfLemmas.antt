@@ -1,5 +1,5 @@
 -- Of `AnswerOf`: the contracts of a debugger's calls give the replies to requests.
-use Rattle.std.proofs.Common.{◌≡◌, ◌≢◌, ◌↔◌, ℕ, ◌+◌, ◌-◌, ◌<◌, ◌≤◌, List, [], length, take, slice_get, get_or, Option, None, Some, Result, Ok, Err, Contains, IfSome, IsNone, IsFalse, true, false, inl, inr, ◌⊎◌, refl, ap, sym, subst, ◌∙◌, arith}
+use Rattle.std.proofs.Common.{◌≡◌, ◌≢◌, ◌↔◌, ℕ, ◌+◌, ◌-◌, ◌<◌, ◌≤◌, List, [], length, take, slice_get, get_or, Option, None, Some, Result, Ok, Err, Contains, IfErr, IfSome, IsNone, IsFalse, true, false, inl, inr, ◌⊎◌, refl, ap, sym, subst, ◌∙◌, arith}
 use Rattle.std.specs.List.{All}
 use Rattle.std.proofs.lemmas.Bool.{cases_lt}
 use Rattle.std.proofs.lemmas.Option.{slice_get_within, get_or_from_slice_get, slice_get-get_or}
@@ -20,18 +20,10 @@ use Rattle.jc_meaning.specs.declared.comparison.Comparison.TheVariants.{SameOps,
 use Rattle.jc_meaning.specs.Comparison.{IsFound, IsComparison}
 use Rattle.jc_debug.specs.declared.breaks.Break.{Break}
 use Rattle.jc_debug.specs.declared.breaks.Break.TheVariants as Kind
-use Rattle.jc_debug.specs.declared.breaks.BreakFault.{BreakFault}
-use Rattle.jc_debug.specs.declared.breaks.BreakFault.TheVariants as B
-use Rattle.jc_debug.specs.declared.fault.ActFault.{ActFault}
-use Rattle.jc_debug.specs.declared.fault.ActFault.TheVariants as AF
-use Rattle.jc_debug.specs.declared.fault.GotoFault.{GotoFault}
-use Rattle.jc_debug.specs.declared.fault.GotoFault.TheVariants as GF
-use Rattle.jc_debug.specs.declared.fault.DebugRunFault.{DebugRunFault}
-use Rattle.jc_debug.specs.declared.fault.DebugRunFault.TheVariants as RF
-use Rattle.jc_debug.specs.declared.fault.DebugStepFault.{DebugStepFault}
-use Rattle.jc_debug.specs.declared.fault.DebugStepFault.TheVariants as SF
+use Rattle.jc_debug.specs.declared.fault.DebugFault.{DebugFault}
+use Rattle.jc_debug.specs.declared.fault.DebugFault.TheVariants as D
 use Rattle.jc_debug.specs.declared.fault.RunEnd.{RunEnd}
-use Rattle.jc_debug.specs.Moves.{MoveStopsAt, IsToldAt, IsStepFault, IsGotoFault, IsDebugRunFault, IsActFault, IsTraceOf, RunMoves, IsActed, IsStuckHere, IsSet, IsCleared, IsNoBreak}
+use Rattle.jc_debug.specs.Moves.{MoveStopsAt, IsToldAt, IsMoveFault, IsRunFault, IsActFault, IsTraceOf, RunMoves, IsActed, IsStuckHere, IsSet, IsCleared, IsNoBreak}
 use Rattle.jc_debug.specs.DebuggerState.{Session, IsNetworkAt, moved_to}
 use Rattle.jc_debug.specs.Invariant.{Seen, start_of, session_of, IsDebugger, IsMoved}
 use Rattle.jc_debug.proofs.RepliesLemmas.{moved_session, arrived, stopped}
@@ -126,37 +118,48 @@ went_back a n exactly = not_less a n (λ lt. true_false (exactly.1 lt))
 pub back_past : (d e : Seen) (n : ℕ) → length d.traces < n → e ≡ d → GivesReply d (Q.back n) e (R.Refused F.AtStart)
 back_past d e n lt same = refuses d e (Q.back n) F.AtStart same (A.back_past lt)
 
-pub step_past : (d e : Seen) (n : ℕ) (fault : DebugStepFault) → fault ≡ SF.AtEnd → ((◌≡◌ {A = Result (Unit {0}) DebugStepFault} (Err fault) (Err SF.AtEnd)) ↔ (length d.schedule < length d.traces + n)) → IsStepFault d e (length d.traces + n) fault → GivesReply d (Q.step n) e (R.Refused F.AtEnd)
-step_past d e n fault is exactly h =
-    refuses d e (Q.step n) F.AtEnd (subst (λ (f : DebugStepFault). IsStepFault d e (length d.traces + n) f) is h) (A.steps_past (exactly.0 (ap Err is)))
+-- a call that is refused, for what its contract says
+refuses_as : (d e : Seen) (q : Request) (refusal r : Refusal) → r ≡ refusal → e ≡ d → Replies (origin_in d) (session_of d) q (session_of d) (Y.refused refusal) → GivesReply d q e (R.Refused r)
+refuses_as d e q refusal r is same due = subst (λ (x : Refusal). GivesReply d q e (R.Refused x)) (sym is) (refuses d e q refusal same due)
 
-step_halted : (d e : Seen) (to : ℕ) (fault : DebugStepFault) (s : Stuck) → fault ≡ SF.Stuck s → IsStepFault d e to fault → Halted d e to s
-step_halted d e to fault s is h = subst (λ (f : DebugStepFault). IsStepFault d e to f) is h
+refused_move : (refusal : Refusal) (d e : Seen) (to : ℕ) (fault : DebugFault) (r : Refusal) → fault ≡ D.Refused r → IsMoveFault refusal d e to fault → (r ≡ refusal) × (e ≡ d)
+refused_move refusal d e to fault r is h = subst (λ (f : DebugFault). IsMoveFault refusal d e to f) is h
 
-pub step_stuck : (d e : Seen) (n m : ℕ) (fault : DebugStepFault) (s : Stuck) → fault ≡ SF.Stuck s → ((◌≡◌ {A = Result (Unit {0}) DebugStepFault} (Err fault) (Err SF.AtEnd)) ↔ (length d.schedule < length d.traces + n)) → IsStepFault d e (length d.traces + n) fault → m ≡ length e.traces → GivesReply d (Q.step n) e (R.Stuck m s)
+halted_move : (refusal : Refusal) (d e : Seen) (to : ℕ) (fault : DebugFault) (s : Stuck) → fault ≡ D.Stuck s → IsMoveFault refusal d e to fault → Halted d e to s
+halted_move refusal d e to fault s is h = subst (λ (f : DebugFault). IsMoveFault refusal d e to f) is h
+
+pub step_past : (d e : Seen) (n : ℕ) (fault : DebugFault) (r : Refusal) → fault ≡ D.Refused r → ((◌≡◌ {A = Result (Unit {0}) DebugFault} (Err fault) (Err (D.Refused F.AtEnd))) ↔ (length d.schedule < length d.traces + n)) → IsMoveFault F.AtEnd d e (length d.traces + n) fault → GivesReply d (Q.step n) e (R.Refused r)
+step_past d e n fault r is exactly h =
+    let why = refused_move F.AtEnd d e (length d.traces + n) fault r is h in
+    refuses_as d e (Q.step n) F.AtEnd r why.0 why.1 (A.steps_past (exactly.0 (ap Err (is ∙ ap D.Refused why.0))))
+
+pub step_stuck : (d e : Seen) (n m : ℕ) (fault : DebugFault) (s : Stuck) → fault ≡ D.Stuck s → ((◌≡◌ {A = Result (Unit {0}) DebugFault} (Err fault) (Err (D.Refused F.AtEnd))) ↔ (length d.schedule < length d.traces + n)) → IsMoveFault F.AtEnd d e (length d.traces + n) fault → m ≡ length e.traces → GivesReply d (Q.step n) e (R.Stuck m s)
 step_stuck d e n m fault s is exactly h at =
-    let within = err_not_past {T = Unit {0}} (length d.schedule) (length d.traces + n) fault SF.AtEnd (λ o. let x : SF.Stuck s ≡ SF.AtEnd = sym is ∙ o in cc) exactly in
-    let halted = step_halted d e (length d.traces + n) fault s is h in
+    let within = err_not_past {T = Unit {0}} (length d.schedule) (length d.traces + n) fault (D.Refused F.AtEnd) (λ o. let x : D.Stuck s ≡ D.Refused F.AtEnd = sym is ∙ o in cc) exactly in
+    let halted = halted_move F.AtEnd d e (length d.traces + n) fault s is h in
     came_stuck d e (length d.traces + n) m (Q.step n) s halted at (A.steps within (stopped d e (length d.traces + n) s halted).goes)
 
-pub goto_past : (d e : Seen) (n : ℕ) (fault : GotoFault) → fault ≡ GF.PastSchedule → ((◌≡◌ {A = Result (Unit {0}) GotoFault} (Err fault) (Err GF.PastSchedule)) ↔ (length d.schedule < n)) → IsGotoFault d e n fault → GivesReply d (Q.goto n) e (R.Refused F.PastSchedule)
-goto_past d e n fault is exactly h =
-    refuses d e (Q.goto n) F.PastSchedule (subst (λ (f : GotoFault). IsGotoFault d e n f) is h) (A.goes_past (exactly.0 (ap Err is)))
+pub goto_past : (d e : Seen) (n : ℕ) (fault : DebugFault) (r : Refusal) → fault ≡ D.Refused r → ((◌≡◌ {A = Result (Unit {0}) DebugFault} (Err fault) (Err (D.Refused F.PastSchedule))) ↔ (length d.schedule < n)) → IsMoveFault F.PastSchedule d e n fault → GivesReply d (Q.goto n) e (R.Refused r)
+goto_past d e n fault r is exactly h =
+    let why = refused_move F.PastSchedule d e n fault r is h in
+    refuses_as d e (Q.goto n) F.PastSchedule r why.0 why.1 (A.goes_past (exactly.0 (ap Err (is ∙ ap D.Refused why.0))))
 
-goto_halted : (d e : Seen) (to : ℕ) (fault : GotoFault) (s : Stuck) → fault ≡ GF.Stuck s → IsGotoFault d e to fault → Halted d e to s
-goto_halted d e to fault s is h = subst (λ (f : GotoFault). IsGotoFault d e to f) is h
-
-pub goto_stuck : (d e : Seen) (n m : ℕ) (fault : GotoFault) (s : Stuck) → fault ≡ GF.Stuck s → ((◌≡◌ {A = Result (Unit {0}) GotoFault} (Err fault) (Err GF.PastSchedule)) ↔ (length d.schedule < n)) → IsGotoFault d e n fault → m ≡ length e.traces → GivesReply d (Q.goto n) e (R.Stuck m s)
+pub goto_stuck : (d e : Seen) (n m : ℕ) (fault : DebugFault) (s : Stuck) → fault ≡ D.Stuck s → ((◌≡◌ {A = Result (Unit {0}) DebugFault} (Err fault) (Err (D.Refused F.PastSchedule))) ↔ (length d.schedule < n)) → IsMoveFault F.PastSchedule d e n fault → m ≡ length e.traces → GivesReply d (Q.goto n) e (R.Stuck m s)
 goto_stuck d e n m fault s is exactly h at =
-    let within = err_not_past {T = Unit {0}} (length d.schedule) n fault GF.PastSchedule (λ o. let x : GF.Stuck s ≡ GF.PastSchedule = sym is ∙ o in cc) exactly in
-    let halted = goto_halted d e n fault s is h in
+    let within = err_not_past {T = Unit {0}} (length d.schedule) n fault (D.Refused F.PastSchedule) (λ o. let x : D.Stuck s ≡ D.Refused F.PastSchedule = sym is ∙ o in cc) exactly in
+    let halted = halted_move F.PastSchedule d e n fault s is h in
     came_stuck d e n m (Q.goto n) s halted at (A.goes_to within (stopped d e n s halted).goes)
 
 -- ---- runs
 
-pub run_past : (d e : Seen) (fault : DebugRunFault) → fault ≡ RF.AtEnd → ((◌≡◌ {A = Result RunEnd DebugRunFault} (Err fault) (Err RF.AtEnd)) ↔ (length d.traces ≡ length d.schedule)) → IsDebugRunFault d e fault → GivesReply d Q.run e (R.Refused F.AtEnd)
-run_past d e fault is exactly h =
-    refuses d e Q.run F.AtEnd (subst (λ (f : DebugRunFault). IsDebugRunFault d e f) is h) (A.runs_past (exactly.0 (ap Err is)))
+pub run_past : (d e : Seen) (fault : DebugFault) (r : Refusal) → fault ≡ D.Refused r → ((◌≡◌ {A = Result RunEnd DebugFault} (Err fault) (Err (D.Refused F.AtEnd))) ↔ (length d.traces ≡ length d.schedule)) → IsRunFault d e fault → GivesReply d Q.run e (R.Refused r)
+run_past d e fault r is exactly h =
+    let why : (r ≡ F.AtEnd) × (e ≡ d) = subst (λ (f : DebugFault). IsRunFault d e f) is h in
+    refuses_as d e Q.run F.AtEnd r why.0 why.1 (A.runs_past (exactly.0 (ap Err (is ∙ ap D.Refused why.0))))
+
+-- a stuck event is an end of a run
+pub run_not_stuck : (d e : Seen) (fault : DebugFault) (s : Stuck) → fault ≡ D.Stuck s → IsRunFault d e fault → ⊥
+run_not_stuck d e fault s is h = subst (λ (f : DebugFault). IsRunFault d e f) is h
 
 before_end : (d e : Seen) (end : RunEnd) → (length d.traces ≡ length d.schedule → ⊥) → RunMoves d e end → length d.traces < length d.schedule
 before_end d e end other r = by_order (cases_lt (length d.traces) (length d.schedule))
@@ -166,10 +169,10 @@ before_end d e end other r = by_order (cases_lt (length d.traces) (length d.sche
     by_order (inr le) = let there = r.runs.forward in let within = r.runs.is_at.within in absurd (other (omega (arith, le, there, within)))
 
 -- a run that was made didn't begin at the end
-not_at_end : (d : Seen) (end : RunEnd) → ((◌≡◌ {A = Result RunEnd DebugRunFault} (Ok end) (Err RF.AtEnd)) ↔ (length d.traces ≡ length d.schedule)) → length d.traces ≡ length d.schedule → ⊥
-not_at_end d end exactly h = let e : ◌≡◌ {A = Result RunEnd DebugRunFault} (Ok end) (Err RF.AtEnd) = exactly.1 h in cc
+not_at_end : (d : Seen) (end : RunEnd) → ((◌≡◌ {A = Result RunEnd DebugFault} (Ok end) (Err (D.Refused F.AtEnd))) ↔ (length d.traces ≡ length d.schedule)) → length d.traces ≡ length d.schedule → ⊥
+not_at_end d end exactly h = let e : ◌≡◌ {A = Result RunEnd DebugFault} (Ok end) (Err (D.Refused F.AtEnd)) = exactly.1 h in cc
 
-pub reply_run : (d e : Seen) (end : RunEnd) (m : ℕ) → ((◌≡◌ {A = Result RunEnd DebugRunFault} (Ok end) (Err RF.AtEnd)) ↔ (length d.traces ≡ length d.schedule)) → RunMoves d e end → m ≡ length e.traces → GivesReply d Q.run e (R.Ran m end)
+pub reply_run : (d e : Seen) (end : RunEnd) (m : ℕ) → ((◌≡◌ {A = Result RunEnd DebugFault} (Ok end) (Err (D.Refused F.AtEnd))) ↔ (length d.traces ≡ length d.schedule)) → RunMoves d e end → m ≡ length e.traces → GivesReply d Q.run e (R.Ran m end)
 reply_run d e end m exactly r at =
     let number : m ≡ r.position = at ∙ r.moved.position in
     gives_moved d e r.position Q.run (R.Ran m end) (Y.ran r.position r.outcome) r.moved
@@ -191,22 +194,22 @@ reply_act d e rest event m spelled trail a at =
       origin = λ i. record { names = a.names i; start = a.start i };
     }
 
-pub act_full : (d e : Seen) (rest : List ℕ) (event : Event) (fault : ActFault) → IsEventText (start_of d).version d.net.names rest event → fault ≡ AF.TooManyEvents → IsActFault d event fault → e ≡ d → GivesReply d (Q.act rest) e (R.Refused F.TooManyEvents)
-act_full d e rest event fault spelled is h same =
-    let full : length d.traces ≡ 100000 = subst (λ (f : ActFault). IsActFault d event f) is h in
-    refuses d e (Q.act rest) F.TooManyEvents same (A.acts event spelled (A.full full))
+pub act_full : (d e : Seen) (rest : List ℕ) (event : Event) (fault : DebugFault) (r : Refusal) → IsEventText (start_of d).version d.net.names rest event → fault ≡ D.Refused r → IsActFault d event fault → e ≡ d → GivesReply d (Q.act rest) e (R.Refused r)
+act_full d e rest event fault r spelled is h same =
+    let why : (r ≡ F.TooManyEvents) × (length d.traces ≡ 100000) = subst (λ (f : DebugFault). IsActFault d event f) is h in
+    refuses_as d e (Q.act rest) F.TooManyEvents r why.0 same (A.acts event spelled (A.full why.1))
 
-act_stuck_here : (d : Seen) (event : Event) (fault : ActFault) (s : Stuck) → fault ≡ AF.Stuck s → IsActFault d event fault → IsStuckHere d event s
-act_stuck_here d event fault s is h = subst (λ (f : ActFault). IsActFault d event f) is h
+act_stuck_here : (d : Seen) (event : Event) (fault : DebugFault) (s : Stuck) → fault ≡ D.Stuck s → IsActFault d event fault → IsStuckHere d event s
+act_stuck_here d event fault s is h = subst (λ (f : DebugFault). IsActFault d event f) is h
 
-act_not_full : (d : Seen) (fault : ActFault) (s : Stuck) → fault ≡ AF.Stuck s → ((◌≡◌ {A = Result (Unit {0}) ActFault} (Err fault) (Err AF.TooManyEvents)) ↔ (length d.traces ≡ 100000)) → length d.traces ≡ 100000 → ⊥
+act_not_full : (d : Seen) (fault : DebugFault) (s : Stuck) → fault ≡ D.Stuck s → ((◌≡◌ {A = Result (Unit {0}) DebugFault} (Err fault) (Err (D.Refused F.TooManyEvents))) ↔ (length d.traces ≡ 100000)) → length d.traces ≡ 100000 → ⊥
 act_not_full d fault s is exactly h =
-    let e : ◌≡◌ {A = Result (Unit {0}) ActFault} (Err fault) (Err AF.TooManyEvents) = exactly.1 h in
-    let x : fault ≡ AF.TooManyEvents = cc in
-    let y : AF.Stuck s ≡ AF.TooManyEvents = sym is ∙ x in
+    let e : ◌≡◌ {A = Result (Unit {0}) DebugFault} (Err fault) (Err (D.Refused F.TooManyEvents)) = exactly.1 h in
+    let x : fault ≡ D.Refused F.TooManyEvents = cc in
+    let y : D.Stuck s ≡ D.Refused F.TooManyEvents = sym is ∙ x in
     cc
 
-pub act_stuck : (d e : Seen) (rest : List ℕ) (event : Event) (m : ℕ) (fault : ActFault) (s : Stuck) → IsEventText (start_of d).version d.net.names rest event → IsDebugger e → fault ≡ AF.Stuck s → ((◌≡◌ {A = Result (Unit {0}) ActFault} (Err fault) (Err AF.TooManyEvents)) ↔ (length d.traces ≡ 100000)) → IsActFault d event fault → e ≡ d → m ≡ length e.traces → GivesReply d (Q.act rest) e (R.Stuck m s)
+pub act_stuck : (d e : Seen) (rest : List ℕ) (event : Event) (m : ℕ) (fault : DebugFault) (s : Stuck) → IsEventText (start_of d).version d.net.names rest event → IsDebugger e → fault ≡ D.Stuck s → ((◌≡◌ {A = Result (Unit {0}) DebugFault} (Err fault) (Err (D.Refused F.TooManyEvents))) ↔ (length d.traces ≡ 100000)) → IsActFault d event fault → e ≡ d → m ≡ length e.traces → GivesReply d (Q.act rest) e (R.Stuck m s)
 act_stuck d e rest event m fault s spelled trail is exactly h same at =
     let here = act_stuck_here d event fault s is h in
     let why = here.stuck.why in
@@ -246,46 +249,48 @@ record GivesSet (d e : Seen) (b : Break) (answer : AnyReply) : Type 0 where
   sets : Sets (session_of d) b (session_of e) reply
   origin : origin_in e ≡ origin_in d
 
-reply_set : (d e : Seen) (b : Break) (r : Result ℕ BreakFault) → IsSet d e b r → r ≢ Err B.NoSuchReplica → GivesSet d e b (set_reply r)
-reply_set d e b (Ok k) (j, number, least, new) other = record {
+reply_set : (d e : Seen) (b : Break) (r : Result ℕ DebugFault) → IsSet d e b r → GivesSet d e b (set_reply r)
+reply_set d e b (Ok k) (j, number, least, new) = record {
   reply = Y.set (j + 1);
   is_reply = ap Y.set (sym number);
   sets = subst (λ (v : Seen). Sets (session_of d) b (session_of v) (Y.set (j + 1))) (sym new) (A.set least);
   origin = ap origin_in new;
 }
-reply_set d e b (Err B.TooManyBreaks) (none, same) other = record {
+reply_set d e b (Err fault) (is, none, same) = record {
   reply = Y.refused F.TooManyBreaks;
   is_reply = refl;
   sets = subst (λ (v : Seen). Sets (session_of d) b (session_of v) (Y.refused F.TooManyBreaks)) (sym same) (A.none_free none);
   origin = ap origin_in same;
 }
-reply_set d e b (Err B.NoSuchReplica) is other = absurd (other refl)
 
-gives_set : (d e : Seen) (b : Break) (q : Request) (r : Result ℕ BreakFault) (answer : AnyReply) → answer ≡ set_reply r → GivesSet d e b (set_reply r) → ((reply : Reply) → Sets (session_of d) b (session_of e) reply → Replies (origin_in d) (session_of d) q (session_of e) reply) → GivesReply d q e answer
+-- no other fault comes of it
+pub set_fault : (d e : Seen) (b : Break) (r : Result ℕ DebugFault) → IsSet d e b r → IfErr r (λ fault. fault ≡ D.Refused F.TooManyBreaks)
+set_fault d e b (Ok k) h = tt
+set_fault d e b (Err fault) h = h.0
+
+gives_set : (d e : Seen) (b : Break) (q : Request) (r : Result ℕ DebugFault) (answer : AnyReply) → answer ≡ set_reply r → GivesSet d e b (set_reply r) → ((reply : Reply) → Sets (session_of d) b (session_of e) reply → Replies (origin_in d) (session_of d) q (session_of e) reply) → GivesReply d q e answer
 gives_set d e b q r answer same s due =
     subst (λ (a : AnyReply). GivesReply d q e a) (sym same)
     (record { reply = s.reply; is_reply = s.is_reply; replies = due s.reply s.sets; origin = s.origin })
 
-pub reply_break_at : (d e : Seen) (n : ℕ) (r : Result ℕ BreakFault) (answer : AnyReply) → IsSet d e (Kind.Position n) r → r ≢ Err B.NoSuchReplica → answer ≡ set_reply r → GivesReply d (Q.break_at n) e answer
-reply_break_at d e n r answer set other same =
-    gives_set d e (Kind.Position n) (Q.break_at n) r answer same (reply_set d e (Kind.Position n) r set other) (λ reply sets. A.breaks_at sets)
+pub reply_break_at : (d e : Seen) (n : ℕ) (r : Result ℕ DebugFault) (answer : AnyReply) → IsSet d e (Kind.Position n) r → answer ≡ set_reply r → GivesReply d (Q.break_at n) e answer
+reply_break_at d e n r answer set same =
+    gives_set d e (Kind.Position n) (Q.break_at n) r answer same (reply_set d e (Kind.Position n) r set) (λ reply sets. A.breaks_at sets)
 
 pub known_here : (d : Seen) (net : NetworkHistory) (version : Version) (rule : Rule) → version ≡ net.history.now.version → IsNetworkAt (start_of d) d.schedule (length d.traces) net.history.now → Knows rule version → Knows rule (start_of d).version
 known_here d net version rule is at known = subst (Knows rule) (same_version d net version is at) known
 
-pub reply_break_rule : (d e : Seen) (rule : Rule) (name : List ℕ) (r : Result ℕ BreakFault) (answer : AnyReply) → Knows rule (start_of d).version → rule_name rule ≡ name → IsSet d e (Kind.Rule rule) r → r ≢ Err B.NoSuchReplica → answer ≡ set_reply r → GivesReply d (Q.break_rule name) e answer
-reply_break_rule d e rule name r answer known is set other same =
-    gives_set d e (Kind.Rule rule) (Q.break_rule name) r answer same (reply_set d e (Kind.Rule rule) r set other) (λ reply sets. A.breaks_rule rule known is sets)
+pub reply_break_rule : (d e : Seen) (rule : Rule) (name : List ℕ) (r : Result ℕ DebugFault) (answer : AnyReply) → Knows rule (start_of d).version → rule_name rule ≡ name → IsSet d e (Kind.Rule rule) r → answer ≡ set_reply r → GivesReply d (Q.break_rule name) e answer
+reply_break_rule d e rule name r answer known is set same =
+    gives_set d e (Kind.Rule rule) (Q.break_rule name) r answer same (reply_set d e (Kind.Rule rule) r set) (λ reply sets. A.breaks_rule rule known is sets)
 
 pub reply_no_rule : (d : Seen) (net : NetworkHistory) (version : Version) (name : List ℕ) → version ≡ net.history.now.version → IsNetworkAt (start_of d) d.schedule (length d.traces) net.history.now → ((rule : Rule) → Knows rule version → rule_name rule ≢ name) → GivesReply d (Q.break_rule name) d (R.Refused F.BadLine)
 reply_no_rule d net version name is at none =
     refuses d d (Q.break_rule name) F.BadLine refl (A.no_rule (λ rule known. none rule (subst (Knows rule) (sym (same_version d net version is at)) known)))
 
-pub reply_break_replica : (d e : Seen) (p : ℕ) (name : List ℕ) (r : Result ℕ BreakFault) (answer : AnyReply) → IsNamed d.net.names name p → IsSet d e (Kind.Replica p) r → ((r ≡ Err B.NoSuchReplica) ↔ (length d.net.names ≤ p)) → answer ≡ set_reply r → GivesReply d (Q.break_replica name) e answer
-reply_break_replica d e p name r answer named set missing same =
-    let within = slice_get_within d.net.names p name named in
-    let other : r ≢ Err B.NoSuchReplica = λ is. let le = missing.0 is in omega (arith, le, within) in
-    gives_set d e (Kind.Replica p) (Q.break_replica name) r answer same (reply_set d e (Kind.Replica p) r set other) (λ reply sets. A.breaks_replica p named sets)
+pub reply_break_replica : (d e : Seen) (p : ℕ) (name : List ℕ) (r : Result ℕ DebugFault) (answer : AnyReply) → IsNamed d.net.names name p → IsSet d e (Kind.Replica p) r → answer ≡ set_reply r → GivesReply d (Q.break_replica name) e answer
+reply_break_replica d e p name r answer named set same =
+    gives_set d e (Kind.Replica p) (Q.break_replica name) r answer same (reply_set d e (Kind.Replica p) r set) (λ reply sets. A.breaks_replica p named sets)
 
 pub reply_unbreak : (d e : Seen) (k : ℕ) → IsCleared d e k → GivesReply d (Q.unbreak k) e (R.Cleared k)
 reply_unbreak d e k c =

@@ -10,7 +10,7 @@ use Rattle.jc_printer.specs.Canon.{AreNamed}
 use Rattle.jc_network.specs.Enabled.{AreEnabled, candidates}
 use Rattle.jc_network.specs.Steps.{stuck_for}
 use Rattle.jc_dump.specs.Lines.{IsNamedStuck}
-use Rattle.jc_debug.specs.declared.breaks.BreakFault.{BreakFault}
+use Rattle.jc_debug.specs.declared.fault.DebugFault.{DebugFault}
 use Rattle.jc_debug.specs.declared.fault.RunEnd.{RunEnd}
 use Rattle.jc_debug.specs.declared.fault.RunEnd.TheVariants as E
 use Rattle.jc_debug.specs.DebuggerState.{RunOutcome}
@@ -108,6 +108,6 @@ Spells version names rest (S.Event event) = IsEventText version names rest event
 Spells version names rest (S.Refused refusal place) = IsMisspelled version names rest refusal place
 
 -- the reply to a request for a breakpoint that was set, or could not be
-abbrev pub set_reply : Result ℕ BreakFault → AnyReply
+abbrev pub set_reply : Result ℕ DebugFault → AnyReply
 set_reply (Ok k) = R.Set k
 set_reply (Err fault) = R.Refused F.TooManyBreaks

@@ -1,6 +1,6 @@
 //! The replies to requests: what each request does to the debugger, and what is answered. Nothing is written here.
 
-ghost use Rattle.std.specs.Prelude.{◌≡◌, ◌≢◌, ◌↔◌, ◌≤◌, List, ℕ, IfOk, IfSome, IfNone, IsTrue, MatchOption, length};
+ghost use Rattle.std.specs.Prelude.{◌≡◌, ◌≢◌, ◌↔◌, ◌≤◌, List, ℕ, IfOk, IfErr, IfSome, IfNone, IsTrue, MatchOption, length};
 ghost use Rattle.jc_rules.specs.declared.limits.TheConstants.{MAX_REPLICAS};
 ghost use Rattle.jc_rules.specs.declared.rule.Rule.{Rule as AnyRule};
 ghost use Rattle.jc_rules.specs.declared.version.Version.{Version as AnyVersion};
@@ -12,7 +12,7 @@ ghost use Rattle.jc_session.specs.Requests as Q;
 ghost use Rattle.jc_session.specs.Views.{request_view};
 
 use crate::request::Request;
-use jc_debug::{ActFault, BreakFault, DebugRunFault, DebugStepFault, Debugger, GotoFault, RunEnd};
+use jc_debug::{DebugFault, Debugger, RunEnd};
 use jc_meaning::{Comparison, compare};
 use jc_network::{Stuck, laws as networks};
 use jc_parser::parse_event;
@@ -62,12 +62,12 @@ fn step(debugger: &mut Debugger, n: u64) -> Result<Reply, AllocError>
 {
     match debugger.step(n) {
         Ok(()) => Ok(Reply::Went(debugger.position())),
-        Err(DebugStepFault::AtEnd) => Ok(Reply::Refused(Refusal::AtEnd)),
-        Err(DebugStepFault::Stuck(stuck)) => {
+        Err(DebugFault::Refused(refusal)) => Ok(Reply::Refused(refusal)),
+        Err(DebugFault::Stuck(stuck)) => {
             let at = debugger.position();
             Ok(Reply::Stuck { at, stuck })
         }
-        Err(DebugStepFault::Memory) => Err(AllocError),
+        Err(DebugFault::Memory) => Err(AllocError),
     }
 }
 
@@ -76,12 +76,12 @@ fn goto(debugger: &mut Debugger, n: u64) -> Result<Reply, AllocError>
 {
     match debugger.goto(n) {
         Ok(()) => Ok(Reply::Went(debugger.position())),
-        Err(GotoFault::PastSchedule) => Ok(Reply::Refused(Refusal::PastSchedule)),
-        Err(GotoFault::Stuck(stuck)) => {
+        Err(DebugFault::Refused(refusal)) => Ok(Reply::Refused(refusal)),
+        Err(DebugFault::Stuck(stuck)) => {
             let at = debugger.position();
             Ok(Reply::Stuck { at, stuck })
         }
-        Err(GotoFault::Memory) => Err(AllocError),
+        Err(DebugFault::Memory) => Err(AllocError),
     }
 }
 
@@ -103,8 +103,9 @@ fn run(debugger: &mut Debugger) -> Result<Reply, AllocError>
             let at = debugger.position();
             Ok(Reply::Ran { at, end })
         }
-        Err(DebugRunFault::AtEnd) => Ok(Reply::Refused(Refusal::AtEnd)),
-        Err(DebugRunFault::Memory) => Err(AllocError),
+        Err(DebugFault::Refused(refusal)) => Ok(Reply::Refused(refusal)),
+        Err(DebugFault::Stuck(_)) => unreachable!(),
+        Err(DebugFault::Memory) => Err(AllocError),
     }
 }
 
@@ -166,12 +167,12 @@ fn act(alloc: Global, debugger: &mut Debugger, rest: &str) -> Result<Reply, Allo
     };
     match debugger.act(&event) {
         Ok(()) => Ok(Reply::Went(debugger.position())),
-        Err(ActFault::TooManyEvents) => Ok(Reply::Refused(Refusal::TooManyEvents)),
-        Err(ActFault::Stuck(stuck)) => {
+        Err(DebugFault::Refused(refusal)) => Ok(Reply::Refused(refusal)),
+        Err(DebugFault::Stuck(stuck)) => {
             let at = debugger.position();
             Ok(Reply::Stuck { at, stuck })
         }
-        Err(ActFault::Memory) => Err(AllocError),
+        Err(DebugFault::Memory) => Err(AllocError),
     }
 }
 
@@ -191,13 +192,15 @@ pub fn number_of(names: &[Text], name: &[u8]) -> Option<u16>
     None
 }
 
-/// The reply to a request for a new breakpoint.
-fn set(set: Result<u16, BreakFault>) -> Reply
+/// The reply to a request for a new breakpoint, which no stuck event or want of memory refuses.
+fn set(set: Result<u16, DebugFault>) -> Reply
+    requires { IfErr set (λ fault. fault ≡ DebugFault.Refused Refusal.TooManyBreaks) }
     ensures { result ≡ set_reply set }
 {
     match set {
         Ok(k) => Reply::Set(k),
-        Err(_) => Reply::Refused(Refusal::TooManyBreaks),
+        Err(DebugFault::Refused(refusal)) => Reply::Refused(refusal),
+        Err(DebugFault::Stuck(_)) | Err(DebugFault::Memory) => unreachable!(),
     }
 }
 

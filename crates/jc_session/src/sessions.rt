@@ -24,9 +24,9 @@ use crate::lines::{Lines, Next};
 use jc_debug::Debugger;
 use jc_dump::named_given_text;
 use jc_io::{Failed, Sink, Source, write_all};
-use jc_network::{StartFault, Stuck};
+use jc_network::{Stuck, Unstarted};
 use jc_rules::Text;
-use jc_scenario::{ScenarioFault, copy_names, read};
+use jc_scenario::{ScenarioFault, read};
 use std::alloc::{AllocError, Global};
 
 /// How a session ended.
@@ -262,15 +262,13 @@ pub fn session<S: Source, K: Sink>(
             };
         }
     };
-    // The debugger takes the scenario; where a given event is stuck, its lines need the names.
-    let names = copy_names(alloc, &scenario.names)?;
     let mut debugger = match Debugger::new(alloc, scenario) {
         Ok(debugger) => debugger,
-        Err(StartFault::Given { at, stuck }) => {
+        Err(Unstarted::Given { names, at, stuck }) => {
             show_stuck(alloc, &names, at, &stuck, out)?;
             return Ok(SessionEnd::GivenStuck);
         }
-        Err(StartFault::Memory) => return Err(SessionFault::Memory),
+        Err(Unstarted::Memory) => return Err(SessionFault::Memory),
     };
     match converse(alloc, &mut debugger, lines, out) {
         Ok(()) => Ok(SessionEnd::Finished),

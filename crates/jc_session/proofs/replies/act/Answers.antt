@@ -18,12 +18,12 @@ returns-in-Ok c =
     let spelled = spelled_in d c.net-net.result.now c.version.result c.names.result.now c.args.rest.now c.in-Event.event c.version.ensures c.net-net.ensures.is_at c.net-net.ensures.net c.names.ensures.names (subst (λ (s : Spelling). Spells c.version.result c.names.result.now c.args.rest.now s) c.in-Event.is c.in_ok-event.ensures) in
     reply_act d c.act.new.self c.args.rest.now c.in-Event.event c.position.result spelled c.position.ensures.trail c.in-Ok.ensures.ok c.position.ensures.position
 
-pub returns-in-Err-TooManyEvents : goal.returns-in-Err-TooManyEvents
-returns-in-Err-TooManyEvents c =
+pub returns-in-Err-Refused : goal.returns-in-Err-Refused
+returns-in-Err-Refused c =
     let d = c.args.debugger.now in
-    let w = c.in-Err-TooManyEvents in
+    let w = c.in-Err-Refused in
     let spelled = spelled_in d c.net-net.result.now c.version.result c.names.result.now c.args.rest.now c.in-Event.event c.version.ensures c.net-net.ensures.is_at c.net-net.ensures.net c.names.ensures.names (subst (λ (s : Spelling). Spells c.version.result c.names.result.now c.args.rest.now s) c.in-Event.is c.in_ok-event.ensures) in
-    act_full d c.act.new.self c.args.rest.now c.in-Event.event w.field-0 spelled w.field-0-is w.ensures.stuck w.ensures.kept
+    act_full d c.act.new.self c.args.rest.now c.in-Event.event w.field-0 w.refusal spelled w.field-0-is w.ensures.stuck w.ensures.kept
 
 pub returns-in-Err-Stuck : goal.returns-in-Err-Stuck
 returns-in-Err-Stuck c =

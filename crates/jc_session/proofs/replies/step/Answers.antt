@@ -1,15 +1,16 @@
-use Rattle.jc_debug.specs.declared.fault.DebugStepFault.TheVariants as SF
+use Rattle.jc_rules.specs.declared.refusal.Refusal.TheVariants as F
+use Rattle.jc_debug.specs.declared.fault.DebugFault.TheVariants as D
 use Rattle.jc_session.proofs.AnswerOfLemmas.{ok_not_past, reply_step, step_past, step_stuck}
 use Rattle.jc_session.proofs.replies.step.Goals as goal
 
 pub returns-in-Ok : goal.returns-in-Ok
 returns-in-Ok c =
-    reply_step c.args.debugger.now c.step.new.self c.args.n c.position.result c.position.ensures.trail (ok_not_past _ _ c.in-Ok.field-0 SF.AtEnd c.in-Ok.ensures.end) c.in-Ok.ensures.ok c.position.ensures.position
+    reply_step c.args.debugger.now c.step.new.self c.args.n c.position.result c.position.ensures.trail (ok_not_past _ _ c.in-Ok.field-0 (D.Refused F.AtEnd) c.in-Ok.ensures.end) c.in-Ok.ensures.ok c.position.ensures.position
 
-pub returns-in-Err-AtEnd : goal.returns-in-Err-AtEnd
-returns-in-Err-AtEnd c =
-    let w = c.in-Err-AtEnd in
-    step_past c.args.debugger.now c.step.new.self c.args.n w.field-0 w.field-0-is w.ensures.end w.ensures.err
+pub returns-in-Err-Refused : goal.returns-in-Err-Refused
+returns-in-Err-Refused c =
+    let w = c.in-Err-Refused in
+    step_past c.args.debugger.now c.step.new.self c.args.n w.field-0 w.refusal w.field-0-is w.ensures.end w.ensures.err
 
 pub returns-in-Err-Stuck : goal.returns-in-Err-Stuck
 returns-in-Err-Stuck c =

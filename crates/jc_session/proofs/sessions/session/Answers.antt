@@ -1,5 +1,6 @@
-use Rattle.std.proofs.Common.{◌≡◌, Err, inl, inr, ap, refl, ◌∙◌}
+use Rattle.std.proofs.Common.{◌≡◌, inl, inr, ap, refl, ◌∙◌}
 use Rattle.jc_scenario.specs.Views.{scenario_view}
+use Rattle.jc_network.proofs.GivenHistoryLemmas.{told_given}
 use Rattle.jc_debug.specs.DebuggerState.{Session}
 use Rattle.jc_debug.specs.Invariant.{session_of}
 use Rattle.jc_session.specs.Answers.{Origin}
@@ -25,21 +26,21 @@ returns-in-Err-refuse-clause-write g c = λ k.
 pub show_stuck-requires : goal.show_stuck-requires
 show_stuck-requires g c =
     let w = c.in-Err-Given in
-    let given = w.ensures.given w.at w.stuck (ap Err w.field-0-is) in
-    given_named (scenario_view c.in-Ok.scenario) c.deref-in-Err-Given.result.now w.at w.stuck c.in-Ok.ensures.well_formed (c.deref-in-Err-Given.ensures.value ∙ (c.in_ok-names.ensures ∙ c.deref.ensures.value)) given
+    let given = told_given (scenario_view c.in-Ok.scenario) w.field-0 w.names w.at w.stuck w.field-0-is w.ensures.unstarted in
+    given_named (scenario_view c.in-Ok.scenario) c.deref-in-Err-Given.result.now w.at w.stuck c.in-Ok.ensures.well_formed (c.deref-in-Err-Given.ensures.value ∙ given.0) given.1
 
 pub returns-in-Err-Given-clause-given_stuck : goal.returns-in-Err-Given-clause-given_stuck
 returns-in-Err-Given-clause-given_stuck g c = λ _.
     let w = c.in-Err-Given in
-    let given = w.ensures.given w.at w.stuck (ap Err w.field-0-is) in
-    (given_shown c.args.scenario.now (scenario_view c.in-Ok.scenario) c.deref-in-Err-Given.result.now w.at w.stuck (sink g.K.Sink c.args.out.now) (sink g.K.Sink c.show_stuck.new.out) c.in-Ok.ensures.scenario (c.deref-in-Err-Given.ensures.value ∙ (c.in_ok-names.ensures ∙ c.deref.ensures.value)) given c.in_ok-show_stuck-in-Err-Given.ensures.ok, refl)
+    let given = told_given (scenario_view c.in-Ok.scenario) w.field-0 w.names w.at w.stuck w.field-0-is w.ensures.unstarted in
+    (given_shown c.args.scenario.now (scenario_view c.in-Ok.scenario) c.deref-in-Err-Given.result.now w.at w.stuck (sink g.K.Sink c.args.out.now) (sink g.K.Sink c.show_stuck.new.out) c.in-Ok.ensures.scenario (c.deref-in-Err-Given.ensures.value ∙ given.0) given.1 c.in_ok-show_stuck-in-Err-Given.ensures.ok, refl)
 
 pub returns-in_err-show_stuck-in-Err-Given-clause-write : goal.returns-in_err-show_stuck-in-Err-Given-clause-write
 returns-in_err-show_stuck-in-Err-Given-clause-write g c = λ k.
     let w = c.in-Err-Given in
-    let given = w.ensures.given w.at w.stuck (ap Err w.field-0-is) in
+    let given = told_given (scenario_view c.in-Ok.scenario) w.field-0 w.names w.at w.stuck w.field-0-is w.ensures.unstarted in
     let interrupted = c.in_err-show_stuck-in-Err-Given.ensures.write (handed _ _ _ c.from_residual-in_err-show_stuck-in-Err-Given.ensures.1 k) in
-    inr (inl (refl, given_front c.args.scenario.now (scenario_view c.in-Ok.scenario) c.deref-in-Err-Given.result.now w.at w.stuck (sink g.K.Sink c.args.out.now) (sink g.K.Sink c.show_stuck.new.out) c.in-Ok.ensures.scenario (c.deref-in-Err-Given.ensures.value ∙ (c.in_ok-names.ensures ∙ c.deref.ensures.value)) given interrupted))
+    inr (inl (refl, given_front c.args.scenario.now (scenario_view c.in-Ok.scenario) c.deref-in-Err-Given.result.now w.at w.stuck (sink g.K.Sink c.args.out.now) (sink g.K.Sink c.show_stuck.new.out) c.in-Ok.ensures.scenario (c.deref-in-Err-Given.ensures.value ∙ given.0) given.1 interrupted))
 
 pub returns-in-Ok-converse-clause-finished : goal.returns-in-Ok-converse-clause-finished
 returns-in-Ok-converse-clause-finished g c = λ _.
@@ -80,13 +81,13 @@ returns-clause-left g c =
 pub returns-in-Err-Given-clause-writes : goal.returns-in-Err-Given-clause-writes
 returns-in-Err-Given-clause-writes g c =
     let w = c.in-Err-Given in
-    let given = w.ensures.given w.at w.stuck (ap Err w.field-0-is) in
-    none_failed _ _ _ _ (given_written (scenario_view c.in-Ok.scenario) c.deref-in-Err-Given.result.now w.at w.stuck (sink g.K.Sink c.args.out.now) (sink g.K.Sink c.show_stuck.new.out) given c.in_ok-show_stuck-in-Err-Given.ensures.ok)
+    let given = told_given (scenario_view c.in-Ok.scenario) w.field-0 w.names w.at w.stuck w.field-0-is w.ensures.unstarted in
+    none_failed _ _ _ _ (given_written (scenario_view c.in-Ok.scenario) c.deref-in-Err-Given.result.now w.at w.stuck (sink g.K.Sink c.args.out.now) (sink g.K.Sink c.show_stuck.new.out) given.1 c.in_ok-show_stuck-in-Err-Given.ensures.ok)
 
 pub returns-in_err-show_stuck-in-Err-Given-clause-writes : goal.returns-in_err-show_stuck-in-Err-Given-clause-writes
 returns-in_err-show_stuck-in-Err-Given-clause-writes g c =
     let w = c.in-Err-Given in
     let e = c.in_err-show_stuck-in-Err-Given.ensures in
-    let given = w.ensures.given w.at w.stuck (ap Err w.field-0-is) in
+    let given = told_given (scenario_view c.in-Ok.scenario) w.field-0 w.names w.at w.stuck w.field-0-is w.ensures.unstarted in
     failed_handed _ _ _ _ c.from_residual-in_err-show_stuck-in-Err-Given.ensures.1 e.kind (λ k. ap g.K.Sink.failures (e.memory k))
-    (λ k. given_failed (scenario_view c.in-Ok.scenario) c.deref-in-Err-Given.result.now w.at w.stuck (sink g.K.Sink c.args.out.now) (sink g.K.Sink c.show_stuck.new.out) given (e.write k))
+    (λ k. given_failed (scenario_view c.in-Ok.scenario) c.deref-in-Err-Given.result.now w.at w.stuck (sink g.K.Sink c.args.out.now) (sink g.K.Sink c.show_stuck.new.out) given.1 (e.write k))

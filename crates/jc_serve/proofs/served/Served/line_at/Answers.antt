@@ -1,7 +1,8 @@
 use Rattle.std.proofs.Common.{◌≡◌, ◌+◌, ◌-◌, length, refl, subst}
 use Rattle.std.proofs.lemmas.Result.{IfOk-weaker}
-use Rattle.jc_debug.specs.declared.fault.GotoFault.TheVariants as G
-use Rattle.jc_debug.specs.Moves.{IsGotoFault}
+use Rattle.jc_rules.specs.declared.refusal.Refusal.TheVariants as F
+use Rattle.jc_debug.specs.declared.fault.DebugFault.TheVariants as D
+use Rattle.jc_debug.specs.Moves.{IsMoveFault}
 use Rattle.jc_rules.specs.declared.operation.Event.{Event}
 use Rattle.jc_rules.specs.Refused.{Cause}
 use Rattle.jc_network.specs.Steps.{stuck_for}
@@ -24,7 +25,7 @@ returns-in_ok-answer-in-Err-Stuck c s start v =
     let x = c.args.self.now in
     let d = c.goto.new.self in
     let w = c.in-Err-Stuck in
-    let f : IsGotoFault x.here d c.args.n (G.Stuck w.stuck) = subst (λ k. IsGotoFault x.here d c.args.n k) w.field-0-is w.ensures.err in
+    let f : IsMoveFault F.PastSchedule x.here d c.args.n (D.Stuck w.stuck) = subst (λ k. IsMoveFault F.PastSchedule x.here d c.args.n k) w.field-0-is w.ensures.err in
     let answer = c.in_ok-answer-in-Err-Stuck.answer.items in
     let h : (why : Cause) (event : Event) → w.stuck ≡ stuck_for why event → answer ≡ stopped_answer x.scenario.given.items d why event =
     λ why event e. subst (λ es. answer ≡ stopped_answer es d why event) c.as_slice-given.ensures.value (c.in_ok-answer-in-Err-Stuck.ensures.answer why event (rw w.field-0-is e)) in

@@ -1,6 +1,7 @@
 use Rattle.std.proofs.Common.{◌≡◌, ◌+◌, length, refl, ap, subst, ◌∙◌}
-use Rattle.jc_debug.specs.declared.fault.GotoFault.TheVariants as G
-use Rattle.jc_debug.specs.Moves.{IsGotoFault}
+use Rattle.jc_rules.specs.declared.refusal.Refusal.TheVariants as F
+use Rattle.jc_debug.specs.declared.fault.DebugFault.TheVariants as D
+use Rattle.jc_debug.specs.Moves.{IsMoveFault}
 use Rattle.jc_network.specs.NetworkHistory.{NetworkHistory}
 use Rattle.jc_rules.specs.declared.operation.Event.{Event}
 use Rattle.jc_rules.specs.Refused.{Cause}
@@ -22,7 +23,7 @@ pub stopped-requires-clause-stuck : goal.stopped-requires-clause-stuck
 stopped-requires-clause-stuck c =
     let x = c.args.self.now in
     let (s, start, v) = c.requires.held in
-    let f : IsGotoFault x.aside c.goto.new.self c.args.n (G.Stuck c.in-Err-Stuck.stuck) = subst (λ k. IsGotoFault x.aside c.goto.new.self c.args.n k) c.in-Err-Stuck.field-0-is c.in-Err-Stuck.ensures.err in
+    let f : IsMoveFault F.PastSchedule x.aside c.goto.new.self c.args.n (D.Stuck c.in-Err-Stuck.stuck) = subst (λ k. IsMoveFault F.PastSchedule x.aside c.goto.new.self c.args.n k) c.in-Err-Stuck.field-0-is c.in-Err-Stuck.ensures.err in
     ended_stuck s start x v x.aside c.goto.new.self v.aside v.same c.args.n c.in-Err-Stuck.stuck f
 
 pub returns-in-Ok : goal.returns-in-Ok
@@ -42,7 +43,7 @@ returns-in_ok-stopped-in-Err-Stuck c s start v =
     let x = c.args.self.now in
     let a = c.goto.new.self in
     let w = c.in-Err-Stuck in
-    let f : IsGotoFault x.aside a c.args.n (G.Stuck w.stuck) = subst (λ k. IsGotoFault x.aside a c.args.n k) w.field-0-is w.ensures.err in
+    let f : IsMoveFault F.PastSchedule x.aside a c.args.n (D.Stuck w.stuck) = subst (λ k. IsMoveFault F.PastSchedule x.aside a c.args.n k) w.field-0-is w.ensures.err in
     let answer = c.in_ok-stopped-in-Err-Stuck.field-0.items in
     let told : (why : Cause) (event : Event) → w.stuck ≡ stuck_for why event → answer ≡ stopped_answer x.scenario.given.items a why event =
     subst (λ es. (why : Cause) (event : Event) → w.stuck ≡ stuck_for why event → answer ≡ stopped_answer es a why event) c.as_slice-given.ensures.value c.in_ok-stopped-in-Err-Stuck.ensures.answer in (
