@@ -1,8 +1,10 @@
 -- Of `Answers` and `AnswerOf`: what is shown is what a request leads to.
-use Rattle.std.proofs.Common.{◌≡◌, ℕ, ◌+◌, ◌<◌, Bool, true, List, [], length, Option, Some, None, Result, Ok, Err, slice_get, refl, sym, ap, subst, ◌∙◌}
+use Rattle.std.proofs.Common.{◌≡◌, ℕ, ◌+◌, ◌-◌, ◌<◌, ◌≤◌, nat_le, if◌then◌else◌, Bool, true, false, List, [], length, Option, Some, None, Result, Ok, Err, IfOk, slice_get, refl, sym, ap, subst, ◌∙◌, arith}
+use Rattle.std.proofs.lemmas.Bool.Decides.{nat_tests}
 use Rattle.std.proofs.lemmas.Option.{slice_get_within}
 use Rattle.jc_rules.specs.declared.operation.Event.{Event}
 use Rattle.jc_rules.specs.declared.refusal.Refusal.{Refusal}
+use Rattle.jc_rules.specs.declared.refusal.Refusal.TheVariants.{AtStart, PastSchedule}
 use Rattle.jc_rules.specs.declared.rule.Rule.{Rule}
 use Rattle.jc_rules.specs.Step.{Network, StepIn}
 use Rattle.jc_scenario.specs.WellFormed.{Scenario}
@@ -14,7 +16,7 @@ use Rattle.jc_requests.specs.Asked as K
 use Rattle.jc_requests.specs.Asked.{Asked, Position}
 use Rattle.jc_looks.specs.declared.fault.LookFault.{LookFault}
 use Rattle.jc_looks.specs.declared.fault.LookFault.TheVariants as F
-use Rattle.jc_looks.specs.LookFaults.{RefusesBy}
+use Rattle.jc_looks.specs.LookFaults.{RefusesBy, Finds}
 use Rattle.jc_looks.specs.declared.looks.Look.{Look}
 use Rattle.jc_looks.specs.declared.looks.Look.TheVariants as L
 use Rattle.jc_looks.specs.Looks.{IsWithin}
@@ -98,3 +100,21 @@ effects_told a b c d event flag told one two asked h =
 pub count_in : (s : Scenario) (start : Network) (x : AnyServed) (v : IsServing s start x) (p : Position) (count : ℕ) (events : List Event) → events ≡ x.here.schedule → count_of (scenario_view x.scenario) events p ≡ Ok count → count_of s x.here.schedule p ≡ Ok count
 count_in s start x v p count events same is =
     subst (λ (t : Scenario). count_of t x.here.schedule p ≡ Ok count) v.scenario (subst (λ (es : List Event). count_of (scenario_view x.scenario) es p ≡ Ok count) same is)
+
+-- no position has more events before it than there are
+pub count_within : (s : Scenario) (events : List Event) (p : Position) (count : ℕ) → count_of s events p ≡ Ok count → count ≤ length s.given + length events
+count_within s events (K.after n) count is = go (nat_le n (length events)) refl is
+  where
+    go : (b : Bool) → nat_le n (length events) ≡ b → (if b then Ok (length s.given + n) else Err PastSchedule) ≡ Ok count → count ≤ length s.given + length events
+    go true t e = let le : n ≤ length events = grind (arith, nat_tests) in let same : length s.given + n ≡ count = cc in omega (arith, le, same)
+    go false t e = absurd cc
+count_within s events (K.before k) count is = go (nat_le k (length s.given)) refl is
+  where
+    go : (b : Bool) → nat_le k (length s.given) ≡ b → (if b then Ok (length s.given - k) else Err AtStart) ≡ Ok count → count ≤ length s.given + length events
+    go true t e = let same : length s.given - k ≡ count = cc in omega (arith, same)
+    go false t e = absurd cc
+
+-- the same of a count that was found
+pub found_within : (s : Scenario) (events : List Event) (p : Position) (r : Result ℕ LookFault) → Finds (λ count. count_of s events p ≡ Ok count) (IsNowhereAnswer s events p) r → IfOk r (λ count. count ≤ length s.given + length events)
+found_within s events p (Ok count) h = count_within s events p count h
+found_within s events p (Err fault) h = tt

@@ -19,7 +19,7 @@ use Rattle.jc_requests.specs.declared.turn.Turn.{Turn as AnyTurn}
 use Rattle.jc_requests.specs.declared.turn.Turn.TheVariants as T
 use Rattle.jc_requests.specs.InputViews.{turn_of}
 use Rattle.jc_requests.specs.Input as I
-use Rattle.jc_requests.specs.Input.{Turn, says, brings, IsTurn, IsPart, IsTextPart, IsCutShort, InputEnd, finished, cut_short, too_many, AreTurns, AreDue}
+use Rattle.jc_requests.specs.Input.{Turn, says, brings, size_of, IsTurn, IsPart, IsTextPart, IsCutShort, InputEnd, finished, cut_short, too_many, AreTurns, AreDue}
 use Rattle.jc_serve.specs.declared.serving.Held.{Held as AnyHeld}
 use Rattle.jc_serve.specs.declared.serving.ServeFault.{ServeFault}
 use Rattle.jc_serve.specs.declared.serving.ServeFault.TheVariants as F
@@ -481,3 +481,8 @@ pub read_starved : {T U : Type 0} (r : Result T ServeFault) (f : ReadFault) → 
 read_starved (Ok v) f h k = absurd h
 read_starved (Err e) R.Memory h k = refl
 read_starved (Err e) R.Failed h k = let same : e ≡ F.Memory = cc in cc
+
+-- a line that was read brings no text
+pub line_alone : (left : Option (List ℕ)) (read : List ℕ) (line : Line) → IsTurn left read (says line) → size_of (asked line) ≡ None
+line_alone left read line (I.line raw lacks none) = none
+line_alone left read line (I.line_at_end raw last lacks is end none) = none

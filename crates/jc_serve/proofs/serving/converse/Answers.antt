@@ -6,7 +6,7 @@ use Rattle.jc_session.proofs.SentLemmas.{handed}
 use Rattle.jc_requests.specs.Input.{says, brings}
 use Rattle.jc_requests.specs.InputViews.{line_by}
 use Rattle.jc_serve.specs.Stopped.{StoppedWhole}
-use Rattle.jc_serve.proofs.ServingLemmas.{begun_at, next_line, next_text, one_more, at_quit, at_end, within_text, past_limit, at_read, in_text, unanswered, left_past, inside, not_both, read_failed, read_starved}
+use Rattle.jc_serve.proofs.ServingLemmas.{begun_at, next_line, next_text, one_more, at_quit, at_end, within_text, past_limit, at_read, in_text, unanswered, left_past, inside, not_both, read_failed, read_starved, line_alone}
 use Rattle.jc_serve.proofs.serving.converse.Goals as goal
 
 pub requests-init : goal.requests-init
@@ -27,6 +27,11 @@ pub returns-in_err-next-clause-memory : goal.returns-in_err-next-clause-memory
 returns-in_err-next-clause-memory g c = λ k.
     let w = c.in_err-next.ensures.memory (read_starved c.from_residual.result c.in_err-next.field-0.0 c.from_residual.ensures.1 k) in
     in_text (g.S.Source.left c.args.source.now) (prepend_known c.requests.input.ahead (g.S.Source.left c.requests.source)) c.next.new.self.ahead (g.S.Source.left c.next.new.source) c.in_err-next.ensures.few c.requests.input.bytes c.requests.input.requests c.requests.held (sink g.K.Sink c.args.out.now) (sink g.K.Sink c.requests.out) c.requests.invariant.so_far w.0 w.1 w.2
+
+pub answer_line-requires-clause-no_text : goal.answer_line-requires-clause-no_text
+answer_line-requires-clause-no_text g c =
+    let next = next_line (prepend_known c.requests.input.ahead (g.S.Source.left c.requests.source)) (prepend_known c.next.new.self.ahead (g.S.Source.left c.next.new.source)) c.requests.input.bytes c.requests.input.requests c.next.new.self.bytes c.next.new.self.requests (line_by c.next.new.self.ended c.next.new.self.line) (line_of_bytes c.line.result) c.in_ok-next.field-0 c.in_ok-next.ensures.turn c.in-Line.is c.line.ensures in
+    line_alone (prepend_known c.next.new.self.ahead (g.S.Source.left c.next.new.source)) next.read (line_of_bytes c.line.result) next.is_turn
 
 pub returns-in_err-answer_line-in-Line-clause-memory : goal.returns-in_err-answer_line-in-Line-clause-memory
 returns-in_err-answer_line-in-Line-clause-memory g c = λ k.

@@ -1,10 +1,14 @@
-use Rattle.std.proofs.Common.{refl, ap, sym, ◌∙◌}
+use Rattle.std.proofs.Common.{◌≡◌, None, refl, ap, sym, subst, ◌∙◌}
 use Rattle.std.specs.Option.{option_map}
 use Rattle.jc_session.specs.Views.{line_of_bytes}
+use Rattle.jc_requests.specs.Input.{size_of}
 use Rattle.jc_requests.specs.Views.{asked_view}
 use Rattle.jc_serve.specs.declared.serving.Held.{Held as AnyHeld}
 use Rattle.jc_serve.proofs.ServingLemmas.{line_led, line_refused}
 use Rattle.jc_serve.proofs.serving.line_answer.Goals as goal
+
+pub answer-requires-clause-no_text : goal.answer-requires-clause-no_text
+answer-requires-clause-no_text c = subst (λ o. size_of o ≡ None) (sym c.asked.ensures ∙ ap (option_map asked_view) c.in-Some.is) c.requires.no_text
 
 pub returns-in_default-clause-answer : goal.returns-in_default-clause-answer
 returns-in_default-clause-answer c =

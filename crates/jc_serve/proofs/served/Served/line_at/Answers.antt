@@ -1,4 +1,4 @@
-use Rattle.std.proofs.Common.{◌≡◌, ◌+◌, ◌-◌, length, refl, subst}
+use Rattle.std.proofs.Common.{◌≡◌, ◌+◌, ◌-◌, length, Err, refl, ap, subst, ◌∙◌, arith}
 use Rattle.std.proofs.lemmas.Result.{IfOk-weaker}
 use Rattle.jc_rules.specs.declared.refusal.Refusal.TheVariants as F
 use Rattle.jc_debug.specs.declared.fault.DebugFault.TheVariants as D
@@ -12,6 +12,11 @@ use Rattle.jc_serve.proofs.LooksLemmas.{ended, ended_answer}
 use Rattle.jc_serve.proofs.SessionsLemmas.{here_moved}
 use Rattle.jc_serve.proofs.EventsLemmas.{line_so, here_state}
 use Rattle.jc_serve.proofs.served.Served.line_at.Goals as goal
+
+pub unreachable-requires : goal.unreachable-requires
+unreachable-requires c =
+    let past = c.goto.ensures.past.0 (c.in-Err-PastSchedule.is ∙ ap Err c.in-Err-PastSchedule.field-0-is) in
+    omega (arith, past, c.requires.there)
 
 pub returns-in_ok-bring_aside-in-Ok : goal.returns-in_ok-bring_aside-in-Ok
 returns-in_ok-bring_aside-in-Ok c =

@@ -1,4 +1,4 @@
-use Rattle.std.proofs.Common.{◌≡◌, ◌+◌, length, refl, ap, subst, ◌∙◌}
+use Rattle.std.proofs.Common.{◌≡◌, ◌+◌, length, Err, refl, ap, subst, ◌∙◌, arith}
 use Rattle.jc_rules.specs.declared.refusal.Refusal.TheVariants as F
 use Rattle.jc_debug.specs.declared.fault.DebugFault.TheVariants as D
 use Rattle.jc_debug.specs.Moves.{IsMoveFault}
@@ -12,6 +12,13 @@ use Rattle.jc_serve.proofs.FindsLemmas.{answers_weaker}
 use Rattle.jc_serve.proofs.LooksLemmas.{aside_at, within_at, shows_at, ended, ended_stuck, ended_answer}
 use Rattle.jc_serve.proofs.SessionsLemmas.{aside_moved}
 use Rattle.jc_serve.proofs.served.Served.look_aside.Goals as goal
+
+pub unreachable-requires : goal.unreachable-requires
+unreachable-requires c =
+    let past = c.goto.ensures.past.0 (c.in-Err-PastSchedule.is ∙ ap Err c.in-Err-PastSchedule.field-0-is) in
+    let (s, start, v) = c.requires.held in
+    let same = ap length v.same in
+    omega (arith, past, same, c.requires.there)
 
 pub shown-requires : goal.shown-requires
 shown-requires c =
