@@ -1,4 +1,4 @@
-use Rattle.std.proofs.Common.{◌≡◌, ◌++◌, ◌∷◌, [], sym, ap, ◌∙◌, append_assoc}
+use Rattle.std.proofs.Common.{◌++◌, ◌∷◌, [], sym, ap, ◌∙◌, append_assoc}
 use Rattle.jc_debug.specs.Traces.{descent_rows, rows_of_all}
 use Rattle.jc_debug.proofs.TracesLemmas.{longer_rows}
 use Rattle.jc_debug.proofs.traces.go_on.Goals as goal

@@ -1,4 +1,4 @@
-use Rattle.std.proofs.Common.{◌≡◌, ◌+◌, ◌++◌, refl, length, take, slice_get, Some, ap, ◌∙◌, arith, length-append}
+use Rattle.std.proofs.Common.{◌≡◌, refl, length, take, slice_get, Some, ap, ◌∙◌, arith, length-append}
 use Rattle.std.proofs.lemmas.Option.{slice_get_read}
 use Rattle.jc_debug.specs.Traces.{rows_of_all}
 use Rattle.jc_debug.proofs.TracesLemmas.{rows_fit}

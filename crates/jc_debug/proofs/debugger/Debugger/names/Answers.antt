@@ -1,7 +1,5 @@
-use Rattle.std.proofs.Common.{◌↔◌, ℕ, List, length, IsTrue, subst}
-use Rattle.jc_rules.specs.declared.rule.Rule.{Rule}
+use Rattle.std.proofs.Common.{length}
 use Rattle.jc_debug.specs.declared.breaks.Break.TheVariants as Kind
-use Rattle.jc_debug.specs.DebuggerState.{HasRule}
 use Rattle.jc_debug.specs.Invariant.{start_of}
 use Rattle.jc_debug.proofs.BreaksLemmas.{as_break, both_ways, rule_named}
 use Rattle.jc_debug.proofs.debugger.Debugger.names.Goals as goal

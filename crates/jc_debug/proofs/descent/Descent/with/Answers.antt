@@ -1,4 +1,4 @@
-use Rattle.std.proofs.Common.{rules, ◌≡◌, ◌+◌, refl, arith}
+use Rattle.std.proofs.Common.{rules, ◌≡◌, ◌+◌, refl}
 use Rattle.jc_debug.proofs.descent.Descent.with.Goals as goal
 
 pub returns-then-row-self-2 : goal.returns-then-row-self-2

@@ -1,5 +1,4 @@
-use Rattle.std.proofs.Common.{◌≡◌, ◌+◌, ◌≤◌, ◌++◌, ◌∷◌, [], length, vec_capacity, sym, ap, ◌∙◌, arith}
-use Rattle.jc_debug.specs.Traces.{rows_of_all}
+use Rattle.std.proofs.Common.{◌≡◌, ◌≤◌, ◌++◌, ◌∷◌, [], length, vec_capacity, sym, ap, ◌∙◌, arith}
 use Rattle.jc_debug.proofs.TracesLemmas.{hand_more}
 use Rattle.jc_debug.proofs.traces.Traces.push.Goals as goal
 
