@@ -13,6 +13,7 @@ pub mod LimitLemmas
 pub mod SubjectsLemmas
 pub mod CommandCountLemmas
 pub mod StopLemmas
+pub mod MoveFaultsLemmas
 pub mod LooksLemmas
 pub mod StopAnswersLemmas
 pub mod EventsLemmas

@@ -196,7 +196,7 @@ impl Served {
                 Ok(stopped(alloc, &self.aside, given, stuck)?)
             }
             Err(DebugFault::Memory) => Err(LookFault::Memory),
-            Err(_) => unreachable!(),
+            Err(DebugFault::Refused(_)) => unreachable!(),
         }
     }
 
@@ -314,7 +314,7 @@ impl Served {
                 Ok(answer)
             }
             Err(DebugFault::Memory) => Err(AllocError),
-            Err(_) => unreachable!(),
+            Err(DebugFault::Refused(_)) => unreachable!(),
         }
     }
 

@@ -70,7 +70,7 @@ impl Served {
             Ok(()) => {}
             Err(DebugFault::Stuck(stuck)) => return Ok(Some(RunEnd::Stuck(stuck))),
             Err(DebugFault::Memory) => return Err(AllocError),
-            Err(_) => unreachable!(),
+            Err(DebugFault::Refused(_)) => unreachable!(),
         }
         match self.named_here(alloc)? {
             Some(place) => Ok(Some(RunEnd::Break(place as u16 + 1))),

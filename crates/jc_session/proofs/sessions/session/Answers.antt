@@ -27,20 +27,20 @@ pub show_stuck-requires : goal.show_stuck-requires
 show_stuck-requires g c =
     let w = c.in-Err-Given in
     let given = told_given (scenario_view c.in-Ok.scenario) w.field-0 w.names w.at w.stuck w.field-0-is w.ensures.unstarted in
-    given_named (scenario_view c.in-Ok.scenario) c.deref-in-Err-Given.result.now w.at w.stuck c.in-Ok.ensures.well_formed (c.deref-in-Err-Given.ensures.value ∙ given.0) given.1
+    given_named (scenario_view c.in-Ok.scenario) c.deref.result.now w.at w.stuck c.in-Ok.ensures.well_formed (c.deref.ensures.value ∙ given.0) given.1
 
 pub returns-in-Err-Given-clause-given_stuck : goal.returns-in-Err-Given-clause-given_stuck
 returns-in-Err-Given-clause-given_stuck g c = λ _.
     let w = c.in-Err-Given in
     let given = told_given (scenario_view c.in-Ok.scenario) w.field-0 w.names w.at w.stuck w.field-0-is w.ensures.unstarted in
-    (given_shown c.args.scenario.now (scenario_view c.in-Ok.scenario) c.deref-in-Err-Given.result.now w.at w.stuck (sink g.K.Sink c.args.out.now) (sink g.K.Sink c.show_stuck.new.out) c.in-Ok.ensures.scenario (c.deref-in-Err-Given.ensures.value ∙ given.0) given.1 c.in_ok-show_stuck-in-Err-Given.ensures.ok, refl)
+    (given_shown c.args.scenario.now (scenario_view c.in-Ok.scenario) c.deref.result.now w.at w.stuck (sink g.K.Sink c.args.out.now) (sink g.K.Sink c.show_stuck.new.out) c.in-Ok.ensures.scenario (c.deref.ensures.value ∙ given.0) given.1 c.in_ok-show_stuck-in-Err-Given.ensures.ok, refl)
 
 pub returns-in_err-show_stuck-in-Err-Given-clause-write : goal.returns-in_err-show_stuck-in-Err-Given-clause-write
 returns-in_err-show_stuck-in-Err-Given-clause-write g c = λ k.
     let w = c.in-Err-Given in
     let given = told_given (scenario_view c.in-Ok.scenario) w.field-0 w.names w.at w.stuck w.field-0-is w.ensures.unstarted in
-    let interrupted = c.in_err-show_stuck-in-Err-Given.ensures.write (handed _ _ _ c.from_residual-in_err-show_stuck-in-Err-Given.ensures.1 k) in
-    inr (inl (refl, given_front c.args.scenario.now (scenario_view c.in-Ok.scenario) c.deref-in-Err-Given.result.now w.at w.stuck (sink g.K.Sink c.args.out.now) (sink g.K.Sink c.show_stuck.new.out) c.in-Ok.ensures.scenario (c.deref-in-Err-Given.ensures.value ∙ given.0) given.1 interrupted))
+    let interrupted = c.in_err-show_stuck-in-Err-Given.ensures.write (handed _ _ _ c.from_residual.ensures.1 k) in
+    inr (inl (refl, given_front c.args.scenario.now (scenario_view c.in-Ok.scenario) c.deref.result.now w.at w.stuck (sink g.K.Sink c.args.out.now) (sink g.K.Sink c.show_stuck.new.out) c.in-Ok.ensures.scenario (c.deref.ensures.value ∙ given.0) given.1 interrupted))
 
 pub returns-in-Ok-converse-clause-finished : goal.returns-in-Ok-converse-clause-finished
 returns-in-Ok-converse-clause-finished g c = λ _.
@@ -82,12 +82,12 @@ pub returns-in-Err-Given-clause-writes : goal.returns-in-Err-Given-clause-writes
 returns-in-Err-Given-clause-writes g c =
     let w = c.in-Err-Given in
     let given = told_given (scenario_view c.in-Ok.scenario) w.field-0 w.names w.at w.stuck w.field-0-is w.ensures.unstarted in
-    none_failed _ _ _ _ (given_written (scenario_view c.in-Ok.scenario) c.deref-in-Err-Given.result.now w.at w.stuck (sink g.K.Sink c.args.out.now) (sink g.K.Sink c.show_stuck.new.out) given.1 c.in_ok-show_stuck-in-Err-Given.ensures.ok)
+    none_failed _ _ _ _ (given_written (scenario_view c.in-Ok.scenario) c.deref.result.now w.at w.stuck (sink g.K.Sink c.args.out.now) (sink g.K.Sink c.show_stuck.new.out) given.1 c.in_ok-show_stuck-in-Err-Given.ensures.ok)
 
 pub returns-in_err-show_stuck-in-Err-Given-clause-writes : goal.returns-in_err-show_stuck-in-Err-Given-clause-writes
 returns-in_err-show_stuck-in-Err-Given-clause-writes g c =
     let w = c.in-Err-Given in
     let e = c.in_err-show_stuck-in-Err-Given.ensures in
     let given = told_given (scenario_view c.in-Ok.scenario) w.field-0 w.names w.at w.stuck w.field-0-is w.ensures.unstarted in
-    failed_handed _ _ _ _ c.from_residual-in_err-show_stuck-in-Err-Given.ensures.1 e.kind (λ k. ap g.K.Sink.failures (e.memory k))
-    (λ k. given_failed (scenario_view c.in-Ok.scenario) c.deref-in-Err-Given.result.now w.at w.stuck (sink g.K.Sink c.args.out.now) (sink g.K.Sink c.show_stuck.new.out) given.1 (e.write k))
+    failed_handed _ _ _ _ c.from_residual.ensures.1 e.kind (λ k. ap g.K.Sink.failures (e.memory k))
+    (λ k. given_failed (scenario_view c.in-Ok.scenario) c.deref.result.now w.at w.stuck (sink g.K.Sink c.args.out.now) (sink g.K.Sink c.show_stuck.new.out) given.1 (e.write k))

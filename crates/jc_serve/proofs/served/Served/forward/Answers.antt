@@ -1,10 +1,15 @@
-use Rattle.std.proofs.Common.{Err, ap, ◌∙◌, arith}
+use Rattle.std.proofs.Common.{◌+◌, length, Err, ap, ◌∙◌, arith}
+use Rattle.jc_rules.specs.declared.refusal.Refusal.TheVariants as F
+use Rattle.jc_serve.proofs.MoveFaultsLemmas.{refused_for}
 use Rattle.jc_serve.proofs.RunsLemmas.{forward_quiet, forward_break}
 use Rattle.jc_serve.proofs.served.Served.forward.Goals as goal
 
 pub unreachable-requires : goal.unreachable-requires
 unreachable-requires c =
-    let past = c.step.ensures.end.0 (c.in-Err-AtEnd.is ∙ ap Err c.in-Err-AtEnd.field-0-is) in
+    let x = c.args.self.now.here in
+    let w = c.in-Err-Refused in
+    let as = refused_for F.AtEnd w.field-0-0 x c.step.new.self (length x.traces + 1) w.field-0 w.field-0-is w.ensures.err in
+    let past = c.step.ensures.end.0 (w.is ∙ ap Err as) in
     omega (arith, past, c.requires.more)
 
 pub returns-in-Some : goal.returns-in-Some

@@ -11,11 +11,14 @@ use Rattle.jc_serve.proofs.AnswersLemmas.{tells_stopped}
 use Rattle.jc_serve.proofs.LooksLemmas.{ended, ended_answer}
 use Rattle.jc_serve.proofs.SessionsLemmas.{here_moved}
 use Rattle.jc_serve.proofs.EventsLemmas.{line_so, here_state}
+use Rattle.jc_serve.proofs.MoveFaultsLemmas.{refused_for}
 use Rattle.jc_serve.proofs.served.Served.line_at.Goals as goal
 
 pub unreachable-requires : goal.unreachable-requires
 unreachable-requires c =
-    let past = c.goto.ensures.past.0 (c.in-Err-PastSchedule.is ∙ ap Err c.in-Err-PastSchedule.field-0-is) in
+    let w = c.in-Err-Refused in
+    let as = refused_for F.PastSchedule w.field-0-0 c.args.self.now.here c.goto.new.self c.args.n w.field-0 w.field-0-is w.ensures.err in
+    let past = c.goto.ensures.past.0 (w.is ∙ ap Err as) in
     omega (arith, past, c.requires.there)
 
 pub returns-in_ok-bring_aside-in-Ok : goal.returns-in_ok-bring_aside-in-Ok

@@ -11,11 +11,14 @@ use Rattle.jc_serve.proofs.AnswersLemmas.{looks_shown, looks_stopped}
 use Rattle.jc_serve.proofs.FindsLemmas.{answers_weaker}
 use Rattle.jc_serve.proofs.LooksLemmas.{aside_at, within_at, shows_at, ended, ended_stuck, ended_answer}
 use Rattle.jc_serve.proofs.SessionsLemmas.{aside_moved}
+use Rattle.jc_serve.proofs.MoveFaultsLemmas.{refused_for}
 use Rattle.jc_serve.proofs.served.Served.look_aside.Goals as goal
 
 pub unreachable-requires : goal.unreachable-requires
 unreachable-requires c =
-    let past = c.goto.ensures.past.0 (c.in-Err-PastSchedule.is ∙ ap Err c.in-Err-PastSchedule.field-0-is) in
+    let w = c.in-Err-Refused in
+    let as = refused_for F.PastSchedule w.field-0-0 c.args.self.now.aside c.goto.new.self c.args.n w.field-0 w.field-0-is w.ensures.err in
+    let past = c.goto.ensures.past.0 (w.is ∙ ap Err as) in
     let (s, start, v) = c.requires.held in
     let same = ap length v.same in
     omega (arith, past, same, c.requires.there)
