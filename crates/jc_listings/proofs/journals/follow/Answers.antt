@@ -5,5 +5,5 @@ use Rattle.jc_listings.proofs.journals.follow.Goals as goal
 pub unreachable-requires : goal.unreachable-requires
 unreachable-requires c = not_full c.args.net.now c.requires.new (c.step.ensures.full.0 (c.in-Err-Full.is ∙ ap Err c.in-Err-Full.field-0-is))
 
-pub unreachable-in-Err-Stuck-requires : goal.unreachable-in-Err-Stuck-requires
-unreachable-in-Err-Stuck-requires c = not_stuck c.args.net.now.history.now c.args.event.now c.in-Err-Stuck.field-0-0 c.requires.can (c.step.ensures.stuck c.in-Err-Stuck.field-0-0 (c.in-Err-Stuck.is ∙ ap Err c.in-Err-Stuck.field-0-is))
+pub unreachable-requires-in-Err-Stuck : goal.unreachable-requires-in-Err-Stuck
+unreachable-requires-in-Err-Stuck c = not_stuck c.args.net.now.history.now c.args.event.now c.in-Err-Stuck.field-0-0 c.requires.can (c.step.ensures.stuck c.in-Err-Stuck.field-0-0 (c.in-Err-Stuck.is ∙ ap Err c.in-Err-Stuck.field-0-is))
