@@ -1,12 +1,17 @@
 -- About `Places`: how far the functions of `placing` have come in the tokens.
 use Rattle.std.proofs.Common.{◌≡◌, ◌≢◌, ℕ, suc, ◌+◌, ◌-◌, ◌≤◌, ◌<◌, ◌⊎◌, inl, inr, List, [], ◌∷◌, ◌++◌, length, map, take, drop, get_or, true, false, codes, Option, Some, None, refl, ap, sym, subst, ◌∙◌, append_assoc, append-nil, length-append, arith}
 use Rattle.std.specs.Str.{bytes_eq}
+use Rattle.std.proofs.lemmas.Option.{none-some}
 use Rattle.std.proofs.lemmas.List.{length-drop, drop-drop, drop_at, drop-append-le, drop_more, drop_all, take_rest, get_or-drop, get_or-append-add, map-append}
 use Rattle.jc_syntax.specs.declared.token.Token.{Token}
 use Rattle.jc_syntax.specs.declared.token.TokenKind.{TokenKind}
 use Rattle.jc_syntax.specs.declared.token.TokenKind.TheVariants.{Name, Semi, BraceL, BraceR}
-use Rattle.jc_syntax.specs.Lexemes.{AreTokensOf, token_bytes}
-use Rattle.jc_syntax.proofs.LexemesLemmas.{one_list}
+use Rattle.jc_rules.specs.declared.refusal.Refusal.{Refusal}
+use Rattle.jc_syntax.specs.declared.fault.LexFault.{LexFault}
+use Rattle.jc_syntax.specs.declared.fault.LexFault.TheVariants.{Memory}
+use Rattle.jc_syntax.specs.Faults.{lex_refusal}
+use Rattle.jc_syntax.specs.Lexemes.{AreTokensOf, IsFaultOf, token_bytes}
+use Rattle.jc_syntax.proofs.LexemesLemmas.{one_list, list_or_fault}
 use Rattle.jc_scenario.specs.WellFormed.{Scenario, IsScenario}
 use Rattle.jc_answers.specs.declared.arrays.ArrayText.{ArrayText}
 use Rattle.jc_answers.specs.JsonTexts.{array_text}
@@ -468,6 +473,11 @@ blocks_end text tokens at a k all blocks h =
     subst (λ (xs : List Block). HasItems a (map block_answer xs)) (sym are) w.listed
 
 -- ---- all of a text
+
+-- the text of a scenario has tokens
+pub not_refused : (text : List ℕ) (fault : LexFault) (r : Refusal) → ((s : Scenario) × IsScenario text s) → lex_refusal fault ≡ Some r → (fault ≢ Memory → IsFaultOf text fault) → ⊥
+not_refused text fault r (s, told) is h =
+    list_or_fault text told.tokens fault told.lexed (h (λ e. none-some r (sym (ap lex_refusal e) ∙ is)))
 
 pub tokens_headed : (text : List ℕ) (tokens : List Token) → ((s : Scenario) × IsScenario text s) → AreTokensOf text tokens → AreHeaded text tokens
 tokens_headed text tokens h lexed =

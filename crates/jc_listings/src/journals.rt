@@ -138,13 +138,14 @@ fn follow(net: &mut Net, event: &Event) -> Result<(), AllocError>
     ensures new { OnOk result (net.new.history.earlier ≡ []) }
 {
     match net.step(event) {
-        Ok(_) => {}
-        Err(StepFault::Memory) => return Err(AllocError),
+        Ok(_) => {
+            net.begin();
+            Ok(())
+        }
+        Err(StepFault::Memory) => Err(AllocError),
         Err(StepFault::Full) => unreachable!(),
         Err(StepFault::Stuck(_)) => unreachable!(),
     }
-    net.begin();
-    Ok(())
 }
 
 impl Networks {

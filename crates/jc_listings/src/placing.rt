@@ -10,7 +10,7 @@ ghost use Rattle.jc_listings.specs.Places.{Block as AnyBlock, AreInside, AreBloc
 ghost use Rattle.jc_listings.specs.PlaceParts.{EndsItem, BeginsWithItems, BeginsWithBlock};
 
 use jc_answers::{ArrayText, Member, object_text};
-use jc_syntax::{LexFault, Token, TokenKind, lex, slice_of};
+use jc_syntax::{Token, TokenKind, lex, slice_of};
 use std::alloc::{AllocError, Global};
 
 /// What some tokens are, as the text of a value, and how many these are.
@@ -192,8 +192,11 @@ pub fn places(alloc: Global, text: &[u8]) -> Result<Vec<u8>, AllocError>
     };
     let tokens = match lex(alloc, text) {
         Ok(tokens) => tokens,
-        Err(LexFault::Memory) => return Err(AllocError),
-        Err(_) => unreachable!(),
+        Err(fault) => match fault.refusal() {
+            None => return Err(AllocError),
+            // The text of a scenario has tokens.
+            Some(_) => unreachable!(),
+        },
     };
     // The first two tokens are the header.
     blocks(alloc, text, &tokens[2..])

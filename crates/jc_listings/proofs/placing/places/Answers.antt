@@ -1,4 +1,4 @@
-use Rattle.std.proofs.Common.{◌≤◌, ℕ, List, length, sym, subst, arith}
+use Rattle.std.proofs.Common.{◌≤◌, ℕ, List, length, sym, subst, ◌∙◌, arith}
 use Rattle.std.proofs.lemmas.Result.{IfOk-weaker}
 use Rattle.std.proofs.lemmas.List.{take_rest}
 use Rattle.std.proofs.lemmas.List.Elements.{All-drop}
@@ -7,8 +7,13 @@ use Rattle.jc_syntax.specs.Lexemes.{AreTokensOf, IsTokenOf}
 use Rattle.jc_scenario.specs.WellFormed.{Scenario, IsScenario}
 use Rattle.jc_listings.specs.Places.{IsPlaces}
 use Rattle.jc_listings.proofs.PlacesTreesLemmas.{AreHeaded}
-use Rattle.jc_listings.proofs.PlacesLemmas.{tokens_headed, headed_room, blocks_there, places_told}
+use Rattle.jc_listings.proofs.PlacesLemmas.{not_refused, tokens_headed, headed_room, blocks_there, places_told}
 use Rattle.jc_listings.proofs.placing.places.Goals as goal
+
+pub unreachable-requires-in-Some : goal.unreachable-requires-in-Some
+unreachable-requires-in-Some c =
+    let s : (s : Scenario) × IsScenario c.in-Ok.text.now s = subst (λ (t : List ℕ). (s : Scenario) × IsScenario t s) (sym c.in-Ok.ensures.cases.0) c.requires in
+    not_refused c.in-Ok.text.now c.in-Err.fault c.in-Some.field-0 s (sym c.refusal.ensures ∙ c.in-Some.is) c.in-Err.ensures.fault
 
 pub slice_bounds-blocks-count : goal.slice_bounds-blocks-count
 slice_bounds-blocks-count c =

@@ -1,13 +1,26 @@
-use Rattle.std.proofs.Common.{ℕ, List, length, ap, sym, subst, ◌∙◌}
+use Rattle.std.proofs.Common.{ℕ, List, length, Result, Err, refl, ap, sym, subst, ◌∙◌}
 use Rattle.std.specs.List.{All}
 use Rattle.std.proofs.lemmas.Result.{IfOk-weaker}
 use Rattle.jc_rules.specs.declared.operation.Event.{Event}
 use Rattle.jc_printer.specs.Canon.{AreNamed}
 use Rattle.jc_scenario.specs.Views.{scenario_view}
+use Rattle.jc_network.specs.declared.fault.StartFault.{StartFault}
+use Rattle.jc_network.specs.Given.{before_given}
 use Rattle.jc_choice.specs.declared.end.End.{End}
+use Rattle.jc_weave.specs.declared.weaving.Woven.{Woven}
+use Rattle.jc_looks.proofs.LooksLemmas.{none_stuck}
 use Rattle.jc_listings.specs.WovenTexts.{IsNamedEnd}
 use Rattle.jc_listings.proofs.WovenTextsLemmas.{named_ends, each_end, each_count, named_events, woven_told}
 use Rattle.jc_listings.proofs.weaving.woven_answer.Goals as goal
+
+abbrev failed : StartFault → Result Woven StartFault
+failed fault = Err fault
+
+pub unreachable-requires : goal.unreachable-requires
+unreachable-requires c =
+    let s = scenario_view c.args.scenario.now in
+    let w = c.in-Err-Given in
+    none_stuck s s.given (before_given s) c.requires.starts.0 w.field-0-0 w.field-0-1 refl c.requires.starts.1 (w.ensures.given w.field-0-0 w.field-0-1 (ap failed w.field-0-is))
 
 pub ends_answer-requires-clause-each : goal.ends_answer-requires-clause-each
 ends_answer-requires-clause-each c =
