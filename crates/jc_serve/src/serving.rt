@@ -4,7 +4,7 @@ ghost use Rattle.std.specs.Prelude.{◌≡◌, ◌⊎◌, ◌++◌, ◌∷◌, �
 ghost use Rattle.jc_io.specs.Written.{sink, Wrote, Interrupted, Written};
 ghost use Rattle.jc_session.specs.Views.{line_of_bytes};
 ghost use Rattle.jc_session.specs.Requests as Q;
-ghost use Rattle.jc_requests.specs.Asked as K;
+ghost use Rattle.jc_requests.specs.Asked as requests;
 ghost use Rattle.jc_requests.specs.Input.{size_of, says, brings, finished, cut_short, too_many};
 ghost use Rattle.jc_requests.specs.Views.{asked_view};
 ghost use Rattle.jc_serve.specs.Subjects.{IsSubject};
@@ -107,7 +107,7 @@ fn send<K: Sink>(out: &mut K, answer: Vec<u8>) -> Result<(), ServeFault>
 
 /// Whether a request is one to end.
 fn is_quit(request: &Asked<'_>) -> bool
-    ensures { IsTrue result ↔ (asked_view request.now ≡ K.of_session Q.quit) }
+    ensures { IsTrue result ↔ (asked_view request.now ≡ requests.of_session Q.quit) }
 {
     matches!(request, Asked::OfSession(Request::Quit))
 }
@@ -119,7 +119,7 @@ fn line_answer(
     line: Option<&[u8]>,
 ) -> Result<(Vec<u8>, bool), AllocError>
     requires held { IsHeld held.old }
-    requires no_text { size_of (K.asked (line_of_bytes line)) ≡ None }
+    requires no_text { size_of (requests.asked (line_of_bytes line)) ≡ None }
     ensures answer { IfOk result (λ found.
         LeadsOn held.old (says (line_of_bytes line.entry)) held.new found.0.items) }
     ensures more { IfOk result (λ found. found.1 ≡ false ↔ IsQuit (says (line_of_bytes line.entry))) }
@@ -141,7 +141,7 @@ fn answer_line<K: Sink>(
     out: &mut K,
 ) -> Result<bool, ServeFault>
     requires held { IsHeld held.old }
-    requires no_text { size_of (K.asked (line_of_bytes line)) ≡ None }
+    requires no_text { size_of (requests.asked (line_of_bytes line)) ≡ None }
     ensures goes { OnOk result (GoesOut Wrote held.old (says (line_of_bytes line.entry)) held.new
         (sink K.Sink out.old) (sink K.Sink out.new)) }
     ensures more { IfOk result (λ more. more ≡ false ↔ IsQuit (says (line_of_bytes line.entry))) }

@@ -67,8 +67,8 @@ fn second(alloc: Global, scenario: &Scenario) -> Result<Debugger, AllocError>
 {
     match Debugger::new(alloc, scenario.copy()?) {
         Ok(debugger) => Ok(debugger),
-        Err(StartFault::Memory) => Err(AllocError),
-        Err(StartFault::Given { .. }) => unreachable!(),
+        Err(Unstarted::Memory) => Err(AllocError),
+        Err(Unstarted::Given { .. }) => unreachable!(),
     }
 }
 

@@ -6,4 +6,4 @@ use Rattle.jc_serve.proofs.served.Served.event_at.Goals as goal
 pub returns-in_err-count : goal.returns-in_err-count
 returns-in_err-count c =
     let q = err_from_is_err_and c.from_residual.result c.from_residual.ensures.1 in
-    rw (q.1, q.2) (no_event_there c.args.self.now (at_view c.args.at) c.args.details _ c.in_err-count.ensures)
+    rw (q.1, q.2) (no_event_there c.args.self.now (at_view c.args.at) c.args.details _ c.in_err-count.ensures.count)

@@ -8,8 +8,8 @@ pub unreachable-requires : goal.unreachable-requires
 unreachable-requires c =
     let x = c.args.self.now.here in
     let w = c.in-Err-Refused in
-    let as = refused_for F.AtEnd w.field-0-0 x c.step.new.self (length x.traces + 1) w.field-0 w.field-0-is w.ensures.err in
-    let past = c.step.ensures.end.0 (w.is ∙ ap Err as) in
+    let told = refused_for F.AtEnd w.field-0-0 x c.step.new.self (length x.traces + 1) w.field-0 w.field-0-is w.ensures.err in
+    let past = c.step.ensures.end.0 (w.is ∙ ap Err told) in
     omega (arith, past, c.requires.more)
 
 pub returns-in-Some : goal.returns-in-Some

@@ -17,8 +17,8 @@ use Rattle.jc_serve.proofs.served.Served.line_at.Goals as goal
 pub unreachable-requires : goal.unreachable-requires
 unreachable-requires c =
     let w = c.in-Err-Refused in
-    let as = refused_for F.PastSchedule w.field-0-0 c.args.self.now.here c.goto.new.self c.args.n w.field-0 w.field-0-is w.ensures.err in
-    let past = c.goto.ensures.past.0 (w.is ∙ ap Err as) in
+    let told = refused_for F.PastSchedule w.field-0-0 c.args.self.now.here c.goto.new.self c.args.n w.field-0 w.field-0-is w.ensures.err in
+    let past = c.goto.ensures.past.0 (w.is ∙ ap Err told) in
     omega (arith, past, c.requires.there)
 
 pub returns-in_ok-bring_aside-in-Ok : goal.returns-in_ok-bring_aside-in-Ok
