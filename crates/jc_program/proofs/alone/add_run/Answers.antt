@@ -31,7 +31,7 @@ pub returns-in_err-stuck-clause-halted : goal.returns-in_err-stuck-clause-halted
 returns-in_err-stuck-clause-halted g c =
     let from = c.in-Ok.ensures.started in
     let events = c.first_events-schedule.ensures ∙ ap (take c.args.events) (c.deref.ensures.value ∙ c.in-Ok.ensures.schedule) in
-    on_err _ c.from_residual-in_err-stuck.result (events_stand c.args.trace c.args.lines (take c.args.events (scenario_view c.args.scenario).schedule) (scenario_view c.args.scenario) c.in-Ok.begun.0 c.first_events-schedule.result.now from events (output g.K.Sink c.args.out.now) (output g.K.Sink c.play.new.out) c.in_err-stuck.ensures.halted)
+    on_err _ c.from_residual.result (events_stand c.args.trace c.args.lines (take c.args.events (scenario_view c.args.scenario).schedule) (scenario_view c.args.scenario) c.in-Ok.begun.0 c.first_events-schedule.result.now from events (output g.K.Sink c.args.out.now) (output g.K.Sink c.play.new.out) c.in_err-stuck.ensures.halted)
 
 -- the blocks are there, and the lines of some replicas
 pub returns-in_err-add_lines-clause-halted : goal.returns-in_err-add_lines-clause-halted
