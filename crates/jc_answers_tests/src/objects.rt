@@ -1,6 +1,6 @@
 //! Objects and lists.
 
-use jc_answers::{ArrayText, Member, Value, object_text};
+use jc_answers::{ArrayText, Member, Value, object_text, quoted, unended};
 use std::alloc::Global;
 use std::process::Abort;
 use std::test::Fail;
@@ -78,5 +78,28 @@ fn lists(rt: HostRuntime) -> Result<(), Fail> {
     is_text(&rt, none.as_slice(), "[]");
     let some = short_list(rt.alloc())?;
     is_text(&rt, some.as_slice(), "[null,\"\",10]");
+    Ok(())
+}
+
+/// A line, and what it is without its LF.
+const LINES: &[(&str, &str)] = &[("a\n", "a"), ("\n", ""), ("a\n\n", "a\n"), ("", "")];
+
+#[test]
+fn lines(rt: HostRuntime) -> Result<(), Fail> {
+    for (line, want) in LINES {
+        let text = String::from_str(rt.alloc(), line)?;
+        is_text(&rt, unended(text.into_bytes()).as_slice(), want);
+    }
+    Ok(())
+}
+
+/// A text, and the string that it is.
+const STRINGS: &[(&str, &str)] = &[("", "\"\""), ("a b", "\"a b\""), ("a\"\\", "\"a\\\"\\\\\"")];
+
+#[test]
+fn strings(rt: HostRuntime) -> Result<(), Fail> {
+    for (text, want) in STRINGS {
+        is_text(&rt, quoted(rt.alloc(), text)?.as_slice(), want);
+    }
     Ok(())
 }

@@ -1,7 +1,7 @@
 //! Refusals of texts and without one, and the other texts of answers.
 
 use jc_answers::Member;
-use jc_looks::{LookFault, flag, refused_at, refused_with, unended};
+use jc_looks::{LookFault, flag, refused_at, refused_with};
 use jc_rules::Refusal;
 use std::process::Abort;
 use std::test::Fail;
@@ -88,17 +88,5 @@ fn refusals(rt: HostRuntime) -> Result<(), Fail> {
 fn flags(rt: HostRuntime) -> Result<(), Fail> {
     let answer = flag(rt.alloc(), "quit")?;
     is_text(&rt, answer.as_slice(), "{\"quit\":true}");
-    Ok(())
-}
-
-/// A line, and what it is without its LF.
-const LINES: &[(&str, &str)] = &[("a\n", "a"), ("\n", ""), ("a\n\n", "a\n"), ("", "")];
-
-#[test]
-fn lines(rt: HostRuntime) -> Result<(), Fail> {
-    for (line, want) in LINES {
-        let text = String::from_str(rt.alloc(), line)?;
-        is_text(&rt, unended(text.into_bytes()).as_slice(), want);
-    }
     Ok(())
 }
