@@ -40,11 +40,7 @@ fn push_event(
 }
 
 /// A list of the texts of events. Refused for want of memory alone.
-pub fn events_answer(
-    alloc: Global,
-    names: &[Text],
-    events: &[Event],
-) -> Result<Vec<u8>, AllocError>
+pub fn events_answer(alloc: Global, names: &[Text], events: &[Event]) -> Result<Vec<u8>, AllocError>
     requires { All (λ e. AreNamed e (length names.now)) events.now }
     ensures { IfOk result (λ answer. answer.items ≡ events_answer names.now events.now) }
 {
