@@ -4,6 +4,7 @@
 
 mod arena;
 mod arena_node;
+mod blocks;
 mod columns;
 mod entries;
 mod ids;
