@@ -32,3 +32,4 @@ pub mod TablesLemmas
 pub mod LentLemmas
 pub mod FlagsLemmas
 pub mod ArenaNodeLemmas
+pub mod BlocksLemmas

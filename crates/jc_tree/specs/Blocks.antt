@@ -70,3 +70,12 @@ DifferAt k old new = (j : Key) → j ≢ k → find key_cmp j new ≡ find key_c
 abbrev pub IsLastLinked : List Key → List (Key × Next) → List Members → ℕ → Id → Type 0
 IsLastLinked keys links bs b i =
     (s n : ℕ) → member bs b s ≡ Some n → member bs b (suc s) ≡ None → IsLinked keys links n i
+
+-- no number of a block is the key's
+abbrev pub IsApart : Key → List Key → List Members → Type 0
+IsApart k keys bs = (b s n : ℕ) → member bs b s ≡ Some n → slice_get keys n ≢ Some k
+
+-- the number is the key's; or else there is none, and no number of a block is the key's
+abbrev pub IsNumberIn : Option ℕ → Key → List Key → List Members → Type 0
+IsNumberIn None k keys bs = IsApart k keys bs
+IsNumberIn (Some n) k keys bs = slice_get keys n ≡ Some k

@@ -7,7 +7,7 @@ ghost use Rattle.jc_rules.specs.declared.id.Id.{Id as AnyId};
 ghost use Rattle.jc_rules.specs.declared.key.Key.{Key as AnyKey};
 ghost use Rattle.jc_rules.specs.declared.key.Key.TheVariants.{Elem};
 ghost use Rattle.jc_rules.specs.declared.key.Next.{Next as AnyNext};
-ghost use Rattle.jc_tree.specs.Blocks.{Members, member, IsAtMost, AreFit, AreNumbered, DifferAt, IsLastLinked, presence_bit};
+ghost use Rattle.jc_tree.specs.Blocks.{Members, member, IsAtMost, AreFit, AreNumbered, DifferAt, IsNumberIn, IsLastLinked, presence_bit};
 ghost use Rattle.jc_tree.specs.Stretches.{LeadsOverEntries};
 ghost use Rattle.jc_tree.specs.declared.blocks.Spot.{Spot as AnySpot};
 
@@ -16,7 +16,7 @@ use std::alloc::{AllocError, Global};
 use std::marker::Model;
 
 /// How many numbers a block has at most: as many as a word has bits.
-const MOST: usize = 64;
+pub const MOST: usize = 64;
 
 /// A list with fewer keys has no blocks.
 const FEW: usize = 8;
@@ -180,8 +180,8 @@ impl Block {
     fn begin(&mut self, number: usize)
         ensures { self.new.numbers ≡ number ∷ [] }
     {
-        self.numbers[0] = number;
-        self.len = 1;
+        self.len = 0;
+        self.push(number, GREATEST, false);
         self.least = GREATEST;
     }
 
@@ -252,11 +252,16 @@ impl Blocks {
     /// Where the number is, if it is in a block.
     pub fn spot(&self, number: usize) -> Option<Spot>
         ensures some { IfSome result (λ spot. member self.now spot.block spot.index ≡ Some number) }
+        ensures within { IfSome result (λ spot. spot.block < length self.now) }
         ensures only { (b s : ℕ) → member self.now b s ≡ Some number
             → result ≡ Some (record { block = b; index = s }) }
     {
-        let spot = *self.spots.get(number)?;
-        let there = self.blocks.get(spot.block)?.number(spot.index)?;
+        let Some(spot) = spot_at(self.spots.as_slice(), number) else {
+            return None;
+        };
+        let Some(there) = number_at(self.blocks.as_slice(), spot) else {
+            return None;
+        };
         if there != number {
             return None;
         }
@@ -284,7 +289,7 @@ impl Blocks {
         ensures most { IfSome result (λ told. told.count ≤ most) }
     {
         let spot = self.spot(number)?;
-        self.blocks.get(spot.block)?.tell(spot.index, most)
+        self.blocks[spot.block].tell(spot.index, most)
     }
 
     /// Makes room for one block more, in a list with so many keys. Few have none.
@@ -339,18 +344,20 @@ impl Blocks {
 
     /// Sets the number's bit, where it is in a block, or clears it: by it the key's presence set, which
     /// changed, has an identifier or not.
-    pub fn mark(&mut self, number: usize, is: bool)
+    pub fn mark(&mut self, number: Option<usize>, is: bool)
         ensures fit { (keys : List AnyKey) (links : List (AnyKey × AnyNext)) (old new : List (AnyKey × List AnyId))
             (k : AnyKey)
-            → AreNumbered keys → slice_get keys number ≡ Some k → DifferAt k old new
+            → AreNumbered keys → IsNumberIn number k keys self.old → DifferAt k old new
             → presence_bit k new ≡ cond is 1 0
             → AreFit keys links old self.old → AreFit keys links new self.new }
     {
-        if let Some(spot) = self.spot(number)
-            && let Some(block) = self.blocks.get_mut(spot.block)
-        {
-            block.mark(spot.index, is);
-        }
+        let Some(number) = number else {
+            return;
+        };
+        let Some(spot) = self.spot(number) else {
+            return;
+        };
+        self.blocks[spot.block].mark(spot.index, is);
     }
 
     /// Cuts what is behind the number off its block, where it is in one: what follows its key changed.
@@ -360,11 +367,10 @@ impl Blocks {
             → AreNumbered keys → slice_get keys number ≡ Some k → DifferAt k old new
             → AreFit keys old presences self.old → AreFit keys new presences self.new }
     {
-        if let Some(spot) = self.spot(number)
-            && let Some(block) = self.blocks.get_mut(spot.block)
-        {
-            block.keep_through(spot.index);
-        }
+        let Some(spot) = self.spot(number) else {
+            return;
+        };
+        self.blocks[spot.block].keep_through(spot.index);
     }
 
     /// Cuts the number's block, where it is in a full one, and begins another with the first number that was
@@ -374,11 +380,21 @@ impl Blocks {
             → AreFit keys links presences self.old → AreFit keys links presences self.new }
     {
         let spot = self.spot(number)?;
-        let block = self.blocks.get_mut(spot.block)?;
-        let place = block.cut_place(spot.index)?;
-        let first = block.number(place)?;
-        block.keep(place);
+        let place = self.blocks[spot.block].cut_place(spot.index)?;
+        let first = self.blocks[spot.block].number(place)?;
+        self.blocks[spot.block].keep(place);
         self.start(first)
+    }
+
+    /// The number's block. Where it has none, one is begun with it, if there is room.
+    pub fn block_of(&mut self, number: usize) -> Option<usize>
+        ensures fit { (keys : List AnyKey) (links : List (AnyKey × AnyNext)) (presences : List (AnyKey × List AnyId))
+            → AreFit keys links presences self.old → AreFit keys links presences self.new }
+    {
+        match self.spot(number) {
+            Some(spot) => Some(spot.block),
+            None => self.start(number),
+        }
     }
 
     /// Takes the number out of its block, with what is behind it, where it is in one.
@@ -388,11 +404,10 @@ impl Blocks {
         ensures gone { (b s : ℕ) → member self.new b s ≢ Some number }
         ensures fewer { (b s n : ℕ) → member self.new b s ≡ Some n → member self.old b s ≡ Some n }
     {
-        if let Some(spot) = self.spot(number)
-            && let Some(block) = self.blocks.get_mut(spot.block)
-        {
-            block.keep(spot.index);
-        }
+        let Some(spot) = self.spot(number) else {
+            return;
+        };
+        self.blocks[spot.block].keep(spot.index);
     }
 
     /// Takes the numbers from the first one on, up to the end, out of their blocks: their keys are gone.
@@ -405,6 +420,20 @@ impl Blocks {
             self.forget(number);
         }
     }
+}
+
+/// The spot that is noted for the number.
+fn spot_at(spots: &[Spot], number: usize) -> Option<Spot>
+    ensures { result ≡ slice_get spots.now number }
+{
+    spots.get(number).copied()
+}
+
+/// The number at the spot.
+fn number_at(blocks: &[Block], spot: Spot) -> Option<usize>
+    ensures { result ≡ member blocks.now spot.block spot.index }
+{
+    blocks.get(spot.block)?.number(spot.index)
 }
 
 /// Makes the spots reach to the number. After a refusal they are as they were.
