@@ -1,5 +1,5 @@
 -- About Blocks: which blocks are fit once a block, a link or a presence set changed.
-use Rattle.std.proofs.Common.{◌≡◌, ◌≢◌, ◌==◌, ◌<◌, ◌≤◌, ◌+◌, ◌/◌, ◌%◌, ◌^◌, ◌⊎◌, inl, inr, ℕ, zero, suc, List, [], ◌∷◌, ◌++◌, length, take, slice_get, slice_set, slice_index_or, Option, is_some, Some, None, Bool, true, false, cond, refl, sym, ◌∙◌, ap, subst, true≢false, arith}
+use Rattle.std.proofs.Common.{◌≡◌, ◌≢◌, ◌==◌, ◌<◌, ◌≤◌, ◌+◌, ◌/◌, ◌%◌, ◌^◌, ◌⊎◌, inl, inr, ℕ, zero, suc, List, [], ◌∷◌, ◌++◌, length, take, slice_get, slice_set, slice_index_or, Option, is_some, IfSome, Some, None, Bool, true, false, cond, refl, sym, ◌∙◌, ap, subst, true≢false, arith}
 use Rattle.std.proofs.lemmas.Bool.{eqb-true, eq-eqb}
 use Rattle.std.proofs.lemmas.Option.{same_Some, slice_get_within}
 use Rattle.std.specs.Int.{bit_at}
@@ -15,6 +15,7 @@ use Rattle.jc_rules.specs.Entries.{find}
 use Rattle.jc_tree.specs.Tree.{or_no_entries, has_ids}
 use Rattle.jc_tree.specs.Arena.{go_on}
 use Rattle.jc_tree.specs.declared.blocks.Spot.{Spot}
+use Rattle.jc_tree.specs.declared.blocks.Told.{Told}
 use Rattle.jc_tree.proofs.TablesLemmas.{slot_here}
 use Rattle.jc_tree.specs.Blocks.{Members, member, AreSpots, IsAtMost, presence_bit, IsLinked, IsBehind, AreFit, AreNumbered, DifferAt, IsLastLinked}
 
@@ -160,6 +161,16 @@ none_behind bs b index number x y h e only c s g = elim (changed_member bs b c s
       omega (arith, at, taken_within index x.numbers s number f)
   | inr p ↦ p.0 (only c s p.1).0
 ]
+
+-- numbers that are nowhere, once one more is
+pub gone_once_more : (old new : List Members) (first number : ℕ) → ((n : ℕ) → first ≤ n → n < number → (b s : ℕ) → member old b s ≢ Some n) → ((b s : ℕ) → member new b s ≢ Some number) → ((b s n : ℕ) → member new b s ≡ Some n → member old b s ≡ Some n) → (n : ℕ) → first ≤ n → n < number + 1 → (b s : ℕ) → member new b s ≢ Some n
+gone_once_more old new first number gone last fewer n from below b s h = go (n == number) refl
+  where
+    go : (q : Bool) → (n == number) ≡ q → ⊥
+    go true q = last b s (h ∙ ap Some (eqb-true n number q))
+    go false q =
+        let apart : n ≢ number = λ e. true≢false (sym (eq-eqb n number e) ∙ q) in
+        gone n from (omega (arith, below, apart)) b s (fewer b s n h)
 
 -- spots once a block kept its first numbers
 pub spots_kept : (spots : List Spot) (bs : List Members) (b k : ℕ) (x y : Members) → slice_get bs b ≡ Some x → y.numbers ≡ take k x.numbers → AreSpots spots bs → AreSpots spots (slice_set bs b y)
@@ -451,3 +462,12 @@ module _ (keys : List Key) (links : List (Key × Next)) (presences : List (Key �
             subst (λ j. IsAtMost j z.id) (sym g) z.least,
             ih m (bits / 2) (Elem z.id) r z.numbered (ap (λ d. d / 2) w ∙ shr-shr x.bits (suc index) 1 ∙ ap (λ d. x.bits / 2 ^ d) (omega arith)) g (ap (slice_get x.numbers) (omega arith) ∙ l) e,
           )
+
+pub told_over : (bs : List Members) (b index number : ℕ) (x : Members) (r : Option Told) → slice_get bs b ≡ Some x → slice_get x.numbers index ≡ Some number → IfSome r (λ told. told.bits ≡ x.bits / 2 ^ suc index) → IfSome r (λ told. told.least ≡ x.least) → IfSome r (λ told. slice_get x.numbers (index + told.count) ≡ Some told.last) → IfSome r (λ told. (keys : List Key) (links : List (Key × Next)) (presences : List (Key × List Id)) (k : Key) (i : Id) → slice_get keys number ≡ Some k → slice_get keys told.last ≡ Some (Elem i) → AreFit keys links presences bs → LeadsOverEntries links presences k told.count told.bits told.least (Elem i))
+told_over bs b index number x None h n e f g = tt
+told_over bs b index number x (Some told) h n e f g = λ keys links presences k i numbered last fit. leads_over keys links presences bs b x h fit told.count index number told.last told.bits told.least k i n numbered e f g last
+
+-- of blocks that are seen as another list
+pub told_at : (bs now : List Members) (number : ℕ) (r : Option Told) → IfSome r (λ told. (keys : List Key) (links : List (Key × Next)) (presences : List (Key × List Id)) (k : Key) (i : Id) → slice_get keys number ≡ Some k → slice_get keys told.last ≡ Some (Elem i) → AreFit keys links presences bs → LeadsOverEntries links presences k told.count told.bits told.least (Elem i)) → bs ≡ now → IfSome r (λ told. (keys : List Key) (links : List (Key × Next)) (presences : List (Key × List Id)) (k : Key) (i : Id) → slice_get keys number ≡ Some k → slice_get keys told.last ≡ Some (Elem i) → AreFit keys links presences now → LeadsOverEntries links presences k told.count told.bits told.least (Elem i))
+told_at bs now number None h v = tt
+told_at bs now number (Some told) h v = λ keys links presences k i numbered last fit. h keys links presences k i numbered last (subst (AreFit keys links presences) (sym v) fit)

@@ -33,3 +33,4 @@ pub mod LentLemmas
 pub mod FlagsLemmas
 pub mod ArenaNodeLemmas
 pub mod BlocksLemmas
+pub mod FitNodesLemmas

@@ -6,7 +6,7 @@ ghost use Rattle.jc_rules.specs.Order.{key_cmp};
 ghost use Rattle.jc_rules.specs.Entries.{IsRising, find, keys_of};
 ghost use Rattle.jc_rules.specs.Paths.{HasContext};
 ghost use Rattle.jc_tree.specs.Tree.{or_no_entries, least_after, has_ids, count_present, keys_lent};
-ghost use Rattle.jc_tree.specs.Numbered.{at_number, column_entries};
+ghost use Rattle.jc_tree.specs.Numbered.{IsNumbered, at_number, column_entries};
 ghost use Rattle.jc_tree.specs.Blocks.{AreFit, AreNumbered, DifferAt, IsNumberIn};
 ghost use Rattle.jc_tree.specs.Stretches.{LeadsOverEntries};
 ghost use Rattle.jc_rules.specs.declared.key.Key.{Key as AnyKey};
@@ -216,6 +216,7 @@ fn is_bare(
 fn number_in(blocks: &Blocks, keys: &KeyTable, key: &Key) -> Option<usize>
     ensures number { IsNumberIn result key.now keys.now.keys blocks.now }
     ensures distinct { AreNumbered keys.now.keys }
+    ensures numbered { IsNumbered keys.now }
 {
     let number = keys.number(key);
     if blocks.is_empty() {

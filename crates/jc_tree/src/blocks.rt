@@ -7,7 +7,7 @@ ghost use Rattle.jc_rules.specs.declared.id.Id.{Id as AnyId};
 ghost use Rattle.jc_rules.specs.declared.key.Key.{Key as AnyKey};
 ghost use Rattle.jc_rules.specs.declared.key.Key.TheVariants.{Elem};
 ghost use Rattle.jc_rules.specs.declared.key.Next.{Next as AnyNext};
-ghost use Rattle.jc_tree.specs.Blocks.{Members, member, IsAtMost, AreFit, AreNumbered, DifferAt, IsNumberIn, IsLastLinked, presence_bit};
+ghost use Rattle.jc_tree.specs.Blocks.{Members, member, AreSpots, IsAtMost, AreFit, AreNumbered, DifferAt, IsNumberIn, IsLastLinked, presence_bit};
 ghost use Rattle.jc_tree.specs.Stretches.{LeadsOverEntries};
 ghost use Rattle.jc_tree.specs.declared.blocks.Spot.{Spot as AnySpot};
 
@@ -301,10 +301,7 @@ impl Blocks {
             return Ok(());
         }
         reach(&mut self.spots, count)?;
-        match self.blocks.last() {
-            Some(last) if last.len() == 0 => Ok(()),
-            _ => Ok(self.blocks.push(Block::new())?),
-        }
+        end_empty(&mut self.blocks)
     }
 
     /// Begins a block with the number, if it is in none and there is room. Returns which block.
@@ -420,6 +417,27 @@ impl Blocks {
             self.forget(number);
         }
     }
+}
+
+/// Whether there is a last block, and it has no number.
+fn ends_empty(blocks: &[Block]) -> bool {
+    match blocks.last() {
+        Some(last) => last.len() == 0,
+        None => false,
+    }
+}
+
+/// Makes the last block an empty one.
+fn end_empty(blocks: &mut Vec<Block>) -> Result<(), AllocError>
+    ensures fit { (keys : List AnyKey) (links : List (AnyKey × AnyNext)) (presences : List (AnyKey × List AnyId))
+        → AreFit keys links presences blocks.old.items → AreFit keys links presences blocks.new.items }
+    ensures spots { (spots : List AnySpot) → AreSpots spots blocks.old.items → AreSpots spots blocks.new.items }
+{
+    if ends_empty(blocks.as_slice()) {
+        return Ok(());
+    }
+    blocks.push(Block::new())?;
+    Ok(())
 }
 
 /// The spot that is noted for the number.

@@ -5,6 +5,9 @@ use Rattle.jc_tree.specs.Arena.{Flat}
 use Rattle.jc_tree.proofs.SortedMapLemmas.{as_err}
 use Rattle.jc_tree.proofs.CountedLemmas.{counted_put}
 use Rattle.jc_tree.proofs.ArenaNodeLemmas.{within_presences, seen_presences, count_within}
+use Rattle.jc_tree.specs.Numbered.{column_entries}
+use Rattle.jc_tree.proofs.TablesLemmas.{may_same}
+use Rattle.jc_tree.proofs.FitNodesLemmas.{fit_seen, differ_put, bit_put}
 use Rattle.jc_tree.proofs.arena_node.ArenaNode.put_presence.Goals as goal
 
 pub returns-in_err-former-clause-err : goal.returns-in_err-former-clause-err
@@ -22,6 +25,10 @@ pub invariant_of-self-2 : goal.invariant_of-self-2
 invariant_of-self-2 c = record {
   within = within_presences c.args.key c.self.inside.keys c.put_set_in.new.keys c.self.inside.maps.items c.self.inside.lists.items c.self.inside.registers.items c.self.inside.presences c.self.inside.links.items c.self.invariant.within c.put_set_in.ensures.numbers c.put_set_in.new.sets c.put_set_in.ensures.within;
   count = omega (arith, counted_put c.self.inside.present c.args.key _ c.self.invariant.count c.args.ids _ _ _ _ c.is_empty-is.ensures c.is_inhabited-was.ensures (c.as_ref.ensures.value ∙ c.in_ok-former.ensures.former) c.in_ok-former.ensures.ok, c.recounted-self-inside.ensures);
+  fit =
+      let es = column_entries c.self.inside.presences c.self.inside.keys in
+      fit_seen c.args.key c.self.inside.keys c.put_set_in.new.keys c.put_set_in.ensures.numbers _ _ (put key_cmp c.args.key c.args.ids es) _ _ (may_same c.args.key c.self.inside.links.items c.self.inside.keys c.put_set_in.new.keys c.put_set_in.ensures.numbers c.self.invariant.within.links) c.in_ok-former.ensures.ok
+      (c.mark.ensures.fit c.self.inside.keys.keys (column_entries c.self.inside.links.items c.self.inside.keys) es (put key_cmp c.args.key c.args.ids es) c.args.key c.number_in-number.ensures.distinct c.number_in-number.ensures.number (differ_put c.args.key c.args.ids es) (bit_put c.args.key c.args.ids c.is_empty-is.result es c.is_empty-is.ensures) c.self.invariant.fit);
 }
 
 pub returns-clause-ok : goal.returns-clause-ok

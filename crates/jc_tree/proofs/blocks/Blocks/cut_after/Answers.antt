@@ -1,4 +1,4 @@
-use Rattle.std.proofs.Common.{Some, sym, subst, ◌∙◌, ap}
+use Rattle.std.proofs.Common.{suc, Some, sym, subst, ◌∙◌, ap}
 use Rattle.jc_tree.specs.Blocks.{AreFit}
 use Rattle.jc_tree.proofs.BlocksLemmas.{only_place_in, no_place, lent_block, spots_kept, fit_relinked, fit_cut}
 use Rattle.jc_tree.proofs.blocks.Blocks.cut_after.Goals as goal
@@ -11,7 +11,7 @@ returns-in_default c = record {
 }
 
 pub invariant_of-self : goal.invariant_of-self
-invariant_of-self c = spots_kept _ _ _ _ _ _ (lent_block _ _ _ _ c.self.view_is c.in-Some.ensures.within c.index_mut.ensures.value) c.keep_through.ensures.numbers c.self.invariant
+invariant_of-self c = spots_kept _ _ _ (suc c.in-Some.spot.index) _ _ (lent_block _ _ _ _ c.self.view_is c.in-Some.ensures.within c.index_mut.ensures.value) c.keep_through.ensures.numbers c.self.invariant
 
 pub returns : goal.returns
 returns c = record {
