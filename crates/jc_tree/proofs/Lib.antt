@@ -34,3 +34,4 @@ pub mod FlagsLemmas
 pub mod ArenaNodeLemmas
 pub mod BlocksLemmas
 pub mod FitNodesLemmas
+pub mod StretchesLemmas

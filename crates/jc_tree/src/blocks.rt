@@ -19,7 +19,7 @@ use std::marker::Model;
 pub const MOST: usize = 64;
 
 /// A list with fewer keys has no blocks.
-const FEW: usize = 8;
+const FEW: usize = 4;
 
 /// Not less than any identifier.
 const GREATEST: Id = Id {
