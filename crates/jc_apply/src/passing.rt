@@ -24,6 +24,7 @@ use std::alloc::AllocError;
 const MOST: usize = 64;
 
 /// How far the search has come: the key, where to look first for it, what follows it, and where to look first for that.
+#[derive(Drop)]
 struct Search {
     key: Key,
     hint: Hint,
@@ -131,5 +132,6 @@ pub fn pass<S: TreeStore>(
     while let Some((key, hint)) = pass_on(store, place, at, &search, op.id, trace)? {
         search = search_at(store, place, at, key, hint);
     }
-    Ok((search.key, search.next))
+    let Search { key, next, .. } = search;
+    Ok((key, next))
 }

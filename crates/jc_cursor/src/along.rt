@@ -25,6 +25,7 @@ use std::alloc::AllocError;
 
 /// How far a walk has come: the key, where to look first for it, and how many present elements are left to
 /// pass.
+#[derive(Drop)]
 struct Walk {
     key: Key,
     hint: Hint,
@@ -156,5 +157,6 @@ pub fn element_at<S: TreeStore>(
         walk = go_on(store, place, at, &walk, trace)?;
     }
     trace.push(Rule::Idx5)?;
-    Ok(walk.key)
+    let Walk { key, .. } = walk;
+    Ok(key)
 }

@@ -69,14 +69,14 @@ none_apart k keys bs e = λ b s n h. let no : None ≡ Some n = ap (λ (l : List
 
 -- entries that differ at one key
 
-module _ {X : Type 0} where
-  other_key : (j k : Key) → j ≢ k → eq_by_cmp key_cmp j k ≡ false
-  other_key j k d = go (eq_by_cmp key_cmp j k) refl
-    where
-      go : (b : Bool) → eq_by_cmp key_cmp j k ≡ b → eq_by_cmp key_cmp j k ≡ false
-      go true h = absurd (d (same-eq keys_total exact_keys j k h))
-      go false h = h
+other_key : (j k : Key) → j ≢ k → eq_by_cmp key_cmp j k ≡ false
+other_key j k d = go (eq_by_cmp key_cmp j k) refl
+  where
+    go : (b : Bool) → eq_by_cmp key_cmp j k ≡ b → eq_by_cmp key_cmp j k ≡ false
+    go true h = absurd (d (same-eq keys_total exact_keys j k h))
+    go false h = h
 
+module _ {X : Type 0} where
   pub differ_put : (k : Key) (x : X) (es : List (Key × X)) → DifferAt k es (put key_cmp k x es)
   differ_put k x es = λ j d. other-put keys_total exact_keys j k x es (other_key j k d)
 

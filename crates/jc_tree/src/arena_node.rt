@@ -265,7 +265,7 @@ fn grow(
     ensures { AreFit keys.now.keys (column_entries links.now keys.now) (column_entries presences.now keys.now) blocks.old
         → AreFit keys.now.keys (column_entries links.now keys.now) (column_entries presences.now keys.now) blocks.new }
 {
-    for _ in 0..MOST {
+    for step in 0..MOST {
         if !grow_once(blocks, block, keys, links, presences) {
             return;
         }

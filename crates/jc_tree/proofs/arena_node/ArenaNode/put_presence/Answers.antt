@@ -1,10 +1,11 @@
-use Rattle.std.proofs.Common.{◌∙◌, ap, arith}
+use Rattle.std.proofs.Common.{sym, ◌∙◌, ap, arith}
 use Rattle.jc_rules.specs.Order.{key_cmp}
 use Rattle.jc_rules.specs.Entries.{put}
 use Rattle.jc_tree.specs.Arena.{Flat}
 use Rattle.jc_tree.proofs.SortedMapLemmas.{as_err}
 use Rattle.jc_tree.proofs.CountedLemmas.{counted_put}
 use Rattle.jc_tree.proofs.ArenaNodeLemmas.{within_presences, seen_presences, count_within}
+use Rattle.jc_tree.specs.Tree.{count_present}
 use Rattle.jc_tree.specs.Numbered.{column_entries}
 use Rattle.jc_tree.proofs.TablesLemmas.{may_same}
 use Rattle.jc_tree.proofs.FitNodesLemmas.{fit_seen, differ_put, bit_put}
@@ -12,6 +13,13 @@ use Rattle.jc_tree.proofs.arena_node.ArenaNode.put_presence.Goals as goal
 
 pub returns-in_err-former-clause-err : goal.returns-in_err-former-clause-err
 returns-in_err-former-clause-err c = as_err _ (seen_presences c.args.key c.self.inside.keys c.put_set_in.new.keys c.self.inside.maps.items c.self.inside.lists.items c.self.inside.registers.items c.self.inside.presences c.self.inside.links.items c.self.invariant.within c.put_set_in.ensures.numbers c.args.self.now c.self.view_is c.put_set_in.new.sets _ (c.in_err-former.ensures.err ∙ (ap (λ (d : Flat). d.presences) c.self.view_is)))
+
+pub invariant_of-self : goal.invariant_of-self
+invariant_of-self c = record {
+  within = within_presences c.args.key c.self.inside.keys c.put_set_in.new.keys c.self.inside.maps.items c.self.inside.lists.items c.self.inside.registers.items c.self.inside.presences c.self.inside.links.items c.self.invariant.within c.put_set_in.ensures.numbers c.put_set_in.new.sets c.put_set_in.ensures.within;
+  count = c.self.invariant.count ∙ ap count_present (sym c.in_err-former.ensures.err);
+  fit = fit_seen c.args.key c.self.inside.keys c.put_set_in.new.keys c.put_set_in.ensures.numbers _ _ _ _ c.self.inside.blocks (may_same c.args.key c.self.inside.links.items c.self.inside.keys c.put_set_in.new.keys c.put_set_in.ensures.numbers c.self.invariant.within.links) c.in_err-former.ensures.err c.self.invariant.fit;
+}
 
 pub recounted-self-inside-requires-clause-within : goal.recounted-self-inside-requires-clause-within
 recounted-self-inside-requires-clause-within c =

@@ -27,7 +27,7 @@ invariant_of-self c = record {
   fit =
       let es = column_entries c.self.inside.presences c.self.inside.keys in
       let links = column_entries c.self.inside.links.items c.self.inside.keys in
-      subst (λ (q : List (Key × List Id)). AreFit c.self.inside.keys.keys links q _) (sym c.restore_set_in.ensures.ok)
+      subst (λ (q : List (Key × List Id)). AreFit c.self.inside.keys.keys links q c.mark.new.self) (sym c.restore_set_in.ensures.ok)
       (c.mark.ensures.fit c.self.inside.keys.keys links es (restored key_cmp c.args.key.now c.args.former es) c.args.key.now c.number_in-number.ensures.distinct c.number_in-number.ensures.number (differ_restored c.args.key.now c.args.former es) (bit_restored c.args.key.now c.args.former c.in-Some.ids _ es (gone_removed c.args.key.now c.self.inside.presences c.self.inside.keys c.number_in-number.ensures.numbered) (sym c.in-Some.ensures.stood) (c.is_inhabited-is.ensures ∙ ap (λ o. has_ids (or_no_entries o)) c.as_ref.ensures.value)) c.self.invariant.fit);
 }
 
