@@ -1,21 +1,15 @@
 //! Inserting an element into a list: a step of `apply_op`.
 
-ghost use Rattle.std.specs.Prelude.{◌≡◌, ◌≢◌, [], None, Some, IfOk, OnOk};
-ghost use Rattle.std.specs.declared.cmp.Ordering.TheVariants.{Less};
-ghost use Rattle.jc_rules.specs.declared.id.Id.{Id as AnyId};
-ghost use Rattle.jc_rules.specs.declared.key.Next.TheVariants.{Elem as To};
+ghost use Rattle.std.specs.Prelude.{◌≡◌, ◌≢◌, [], None, OnOk};
 ghost use Rattle.jc_rules.specs.declared.operation.Mutation.TheVariants.{Insert};
-ghost use Rattle.jc_rules.specs.declared.value.Value.{Value as AnyValue};
-ghost use Rattle.jc_rules.specs.Order.{id_cmp};
 ghost use Rattle.jc_rules.specs.Context.{next as next_of};
 ghost use Rattle.jc_rules.specs.Derivation.{Operate};
 ghost use Rattle.jc_rules.specs.WellFormed.{IsChained};
-ghost use Rattle.jc_rules.specs.Trace.{IsLonger};
 ghost use Rattle.jc_rules.specs.Table.{moved};
 ghost use Rattle.jc_tree.specs.Tree.{HasPlace, NamesStay, here};
 ghost use Rattle.jc_tree.specs.CanGoBack.{TreeCanGoBack};
 ghost use Rattle.jc_apply.specs.Fits.{IsUnlinked};
-ghost use Rattle.jc_apply.specs.AppliesAlong.{LeadsTo, LinksOnly, Passes};
+ghost use Rattle.jc_apply.specs.AppliesAlong.{LeadsTo, LinksOnly};
 
 use crate::assigning::assign;
 use crate::passing::pass;

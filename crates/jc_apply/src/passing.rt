@@ -69,7 +69,7 @@ fn pass_over(count: usize, trace: &mut Trace) -> Result<(), AllocError>
     ensures ok { OnOk result (trace.new ≡ passed_over count trace.old) }
     ensures longer { IsLonger trace.old trace.new }
 {
-    for passed in 0..count {
+    for step in 0..count {
         trace.open(Rule::Insert2)?;
     }
     Ok(())

@@ -5,6 +5,7 @@ use Rattle.jc_rules.specs.declared.key.Key.{Key}
 use Rattle.jc_rules.specs.declared.key.Key.TheVariants.{Head, Elem}
 use Rattle.jc_rules.specs.declared.key.Next.TheVariants.{Elem as To}
 use Rattle.jc_rules.specs.declared.refusal.Refusal.TheVariants as F
+use Rattle.jc_rules.specs.declared.rule.Rule.{Rule}
 use Rattle.jc_rules.specs.declared.rule.Rule.TheVariants as R
 use Rattle.jc_rules.specs.Context.{Context, links, next, presence, presences}
 use Rattle.jc_rules.specs.Derivation.{SelectIndex, ToCursor}
@@ -166,3 +167,21 @@ one_absent c k j i m l t u some le e je p ue = record {
   counted = omega (arith, le);
   rows = ue;
 }
+
+-- one row of those that are gone over
+
+pub row_over : (n m bits : ℕ) (r : Rule) (t u v : Rows) → n ≡ suc m → rule_by (bits % 2) ≡ r → u ≡ one_deeper (pushed t r) → gone_over n bits t ≡ v → gone_over m (bits / 2) u ≡ v
+row_over n m bits r t u v e f g h =
+    ap (gone_over m (bits / 2)) (g ∙ ap (λ q. one_deeper (pushed t q)) (sym f)) ∙ sym (ap (λ k. gone_over k bits t) e) ∙ h
+
+pub bit_over : (n m bits b p all : ℕ) → n ≡ suc m → bits % 2 ≡ b → p + count_bits n bits ≡ all → p + b + count_bits m (bits / 2) ≡ all
+bit_over n m bits b p all e f h =
+    let one : count_bits n bits ≡ bits % 2 + count_bits m (bits / 2) = ap (λ k. count_bits k bits) e in
+    omega (arith, one, f, h)
+
+-- a bit that isn't set
+pub even_bit : (bits : ℕ) → bits % 2 ≢ 1 → bits % 2 ≡ 0
+even_bit bits h = omega (arith, h)
+
+pub none_over : (n bits : ℕ) (t v : Rows) → n ≡ 0 → gone_over n bits t ≡ v → t ≡ v
+none_over n bits t v e h = sym (ap (λ k. gone_over k bits t) e) ∙ h

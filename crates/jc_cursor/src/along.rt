@@ -52,7 +52,7 @@ fn go_over(count: usize, bits: u64, trace: &mut Trace) -> Result<usize, AllocErr
 {
     let mut rest = bits;
     let mut present = 0;
-    for _ in 0..count {
+    for step in 0..count {
         if rest % 2 == 1 {
             trace.open(Rule::Idx3)?;
             present += 1;

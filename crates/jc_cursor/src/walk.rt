@@ -1,25 +1,17 @@
-//! Walks in a document for the selectors: down a path, and along a list. The trace is left at the depth
-//! of the last rule's premises.
+//! The way down a path for the selectors, and whether a key is present. The trace is left at the depth of the
+//! last rule's premises.
 
-ghost use Rattle.std.specs.Prelude.{◌≡◌, ◌≢◌, None, Some, [], IsTrue, IsFalse, IfOk, IfErr, IfSome, OnOk};
+ghost use Rattle.std.specs.Prelude.{None, Some, IsTrue, IsFalse, IfOk, IfErr, IfSome, OnOk};
 ghost use Rattle.std.specs.List.{AllByRecursion};
-ghost use Rattle.jc_rules.specs.declared.key.Key.TheVariants.{Head};
-ghost use Rattle.jc_rules.specs.declared.id.Id.{Id as AnyId};
-ghost use Rattle.jc_rules.specs.declared.key.Next.TheVariants.{Elem as To};
 ghost use Rattle.jc_rules.specs.Context.{presence as presence_set};
-ghost use Rattle.jc_rules.specs.Derivation.{SelectIndex, ToCursor};
-ghost use Rattle.jc_rules.specs.Derives.{Derives};
-ghost use Rattle.jc_rules.specs.Refused.{Refused};
-ghost use Rattle.jc_rules.specs.WellFormed.{IsChained};
-ghost use Rattle.jc_rules.specs.Table.{cursor, IsEmptyIds};
-ghost use Rattle.jc_rules.specs.Trace.{at_depth};
+ghost use Rattle.jc_rules.specs.Table.{IsEmptyIds};
 ghost use Rattle.jc_tree.specs.Tree.{HasPlace, here};
 ghost use Rattle.jc_rules.specs.Paths.{HasContext};
 ghost use Rattle.jc_cursor.specs.WayDown.{IsGrown, LeadsDown, RefusesDown, RefusedOnWay};
 ghost use Rattle.jc_cursor.specs.Evaluates.{eval_cause_of};
 
 use crate::evaluating::EvalFault;
-use jc_rules::{Id, Key, Next, Rule, Tagged, Trace};
+use jc_rules::{Key, Rule, Tagged, Trace};
 use jc_tree::{Hint, Place, TreeStore};
 
 /// Goes down the path, by the rule for each key. Returns the store's name for the place at its end.

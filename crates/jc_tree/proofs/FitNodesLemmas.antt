@@ -22,7 +22,7 @@ use Rattle.jc_tree.specs.Numbered.GetsNumber.{had, gets}
 use Rattle.jc_tree.specs.Tables.{MayNumber}
 use Rattle.jc_tree.specs.Tables.MayNumber.{same, numbers}
 use Rattle.jc_tree.specs.Blocks.{Members, member, presence_bit, IsLinked, IsBehind, AreFit, AreNumbered, DifferAt, IsApart, IsNumberIn, IsLastLinked}
-use Rattle.jc_tree.proofs.NumberedLemmas.{key_at, number_at, find_removed}
+use Rattle.jc_tree.proofs.NumberedLemmas.{key_at, number_at, find_removed, numbered_again}
 use Rattle.jc_tree.proofs.ColumnLemmas.{find_column, sorted_column}
 use Rattle.jc_tree.proofs.CountedLemmas.{has_added, some_left}
 use Rattle.jc_tree.proofs.BlocksLemmas.{is_member, fit_relinked, fit_apart, taken}
@@ -58,6 +58,10 @@ fit_seen k t u g l l' p p' bs le pe fit = λ b s n m x h i j.
 -- no key has two numbers
 pub keys_numbered : (t : Numbering) → IsNumbered t → AreNumbered t.keys
 keys_numbered t i k m n f g = same_Some m n (sym (number_at t i k m f) ∙ number_at t i k n g)
+
+pub may_numbered : (k : Key) (t u : Numbering) → MayNumber k t u → IsNumbered t → IsNumbered u
+may_numbered k t u (same e) i = subst IsNumbered (sym e) i
+may_numbered k t u (numbers n j g) i = numbered_again k n t u i g
 
 -- the number that is found in a numbering, where there are blocks
 pub number_found : (k : Key) (t : Numbering) (o : Option ℕ) (bs : List Members) → IsNumbered t → o ≡ find key_cmp k t.order → IsNumberIn o k t.keys bs
@@ -116,6 +120,9 @@ module _ {X : Type 0} where
 
 pub differ_same : {X : Type 0} (k : Key) (es fs : List (Key × X)) → fs ≡ es → DifferAt k es fs
 differ_same k es fs e = λ j d. ap (find key_cmp j) e
+
+pub if_some : {A : Type 0} (o : Option A) (P : A → Type 0) (a : A) → o ≡ Some a → P a → IfSome o P
+if_some o P a e h = subst (λ x. IfSome x P) (sym e) h
 
 -- links
 
