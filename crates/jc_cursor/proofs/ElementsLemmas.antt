@@ -1,5 +1,5 @@
 -- About WayDown and Evaluates: along a list to an element by its index.
-use Rattle.std.proofs.Common.{◌≡◌, ◌≢◌, ℕ, suc, zero, ◌-◌, ◌+◌, ◌/◌, ◌%◌, ◌<◌, ◌≤◌, List, [], ◌∷◌, length, Option, Some, None, Bool, true, false, cond, refl, sym, ◌∙◌, ap, subst, arith}
+use Rattle.std.proofs.Common.{◌≡◌, ◌≢◌, ℕ, suc, zero, ◌-◌, ◌+◌, ◌/◌, ◌%◌, ◌<◌, ◌≤◌, List, [], ◌∷◌, length, Option, Some, None, IfSome, Bool, true, false, cond, refl, sym, ◌∙◌, ap, subst, arith}
 use Rattle.jc_rules.specs.declared.id.Id.{Id}
 use Rattle.jc_rules.specs.declared.key.Key.{Key}
 use Rattle.jc_rules.specs.declared.key.Key.TheVariants.{Head, Elem}
@@ -84,6 +84,10 @@ along_passed c i k j m d t u v h e je p ve w =
 pub along_past_end : (c : Context) (i : ℕ) (k : Key) (m : ℕ) (t u : Rows) → 0 < m → ((d : Id) → next k c ≢ Some (To d)) → Along c i k m t u → Refused (SelectIndex c (cursor [] Head) i) (because F.PastEnd)
 along_past_end c i k m t u h e w =
     w.refuses (because F.PastEnd) (subst (λ (y : ℕ). Refused (SelectIndex c (cursor [] k) y) (because F.PastEnd)) (sym (a_suc m h)) (past_end refl e))
+
+pub past_refused : (c : Context) (i : ℕ) (k : Key) (m : ℕ) (t u : Rows) (o : Option Cause) → 0 < m → Along c i k m t u → IfSome o (λ why. (why ≡ because F.PastEnd) × ((d : Id) → next k c ≢ Some (To d))) → IfSome o (λ why. Refused (SelectIndex c (cursor [] Head) i) why)
+past_refused c i k m t u None h a e = tt
+past_refused c i k m t u (Some why) h a e = subst (λ (w : Cause). Refused (SelectIndex c (cursor [] Head) i) w) (sym e.0) (along_past_end c i k m t u h e.1 a)
 
 -- at the element
 pub along_ends : (c : Context) (i : ℕ) (k : Key) (m : ℕ) (t u v : Rows) → m ≤ 0 → Along c i k m t u → v ≡ pushed u R.Idx5 → Derives (SelectIndex c (cursor [] Head) i) (ToCursor (cursor [] k)) t (at_depth t.depth v)
@@ -185,3 +189,6 @@ even_bit bits h = omega (arith, h)
 
 pub none_over : (n bits : ℕ) (t v : Rows) → n ≡ 0 → gone_over n bits t ≡ v → t ≡ v
 none_over n bits t v e h = sym (ap (λ k. gone_over k bits t) e) ∙ h
+
+pub no_bits : (n bits p all : ℕ) → n ≡ 0 → p + count_bits n bits ≡ all → p ≡ all
+no_bits n bits p all e h = let none : count_bits n bits ≡ 0 = ap (λ k. count_bits k bits) e in omega (arith, none, h)

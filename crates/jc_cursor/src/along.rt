@@ -88,7 +88,8 @@ fn go_over_one<S: TreeStore>(
     };
     let key = Key::Elem(id);
     let hint = step.hint;
-    if store.step_by(place, at, &key, hint).present {
+    let ahead = store.step_by(place, at, &key, hint);
+    if ahead.present {
         trace.open(Rule::Idx3)?;
         let left = walk.left - 1;
         return Ok(Walk { key, hint, left });

@@ -2,7 +2,7 @@ use Rattle.std.proofs.Common.{◌≡◌, ◌-◌, ◌+◌, suc, refl, sym, ◌�
 use Rattle.jc_rules.specs.declared.rule.Rule.TheVariants as R
 use Rattle.jc_cursor.specs.Along.{rule_by, gone_over, count_bits}
 use Rattle.jc_cursor.proofs.TraceGrowsLemmas.{not_grown, grown_below}
-use Rattle.jc_cursor.proofs.ElementsLemmas.{row_over, bit_over, even_bit, none_over}
+use Rattle.jc_cursor.proofs.ElementsLemmas.{row_over, bit_over, even_bit, none_over, no_bits}
 use Rattle.jc_cursor.proofs.along.go_over.Goals as goal
 
 pub loop-step-init : goal.loop-step-init
@@ -15,3 +15,6 @@ loop-step-init c = record {
 
 pub loop-step-preserved : goal.loop-step-preserved
 loop-step-preserved c = ?
+
+pub returns : goal.returns
+returns c = ?
