@@ -12,7 +12,13 @@ use Rattle.jc_tree.proofs.ArenaNodeLemmas.{within_links, count_stays, seen_links
 use Rattle.jc_tree.proofs.arena_node.ArenaNode.put_link.Goals as goal
 
 pub invariant_of-self : goal.invariant_of-self
-invariant_of-self c = ?
+invariant_of-self c =
+    let keys = c.self.inside.keys in
+    record {
+      within = c.self.invariant.within;
+      count = c.self.invariant.count;
+      fit = c.make_room.ensures.fit keys.keys (column_entries c.self.inside.links.items keys) (column_entries c.self.inside.presences keys) c.self.invariant.fit;
+    }
 
 pub invariant_of-self-in_err-former : goal.invariant_of-self-in_err-former
 invariant_of-self-in_err-former c =
