@@ -118,6 +118,17 @@ pub longer_over : (n : ℕ) (t : Rows) → IsLonger t (passed_over n t)
 longer_over zero t = same_rows t
 longer_over (suc n) t = longer_still t (one_deeper (pushed t R.Insert2)) (passed_over n (one_deeper (pushed t R.Insert2))) (record { added = (R.Insert2, t.depth) ∷ []; is = refl }) (longer_over n (one_deeper (pushed t R.Insert2)))
 
+-- one row of those that are passed
+
+pub row_passed : (n m : ℕ) (t u v : Rows) → n ≡ suc m → u ≡ one_deeper (pushed t R.Insert2) → passed_over n t ≡ v → passed_over m u ≡ v
+row_passed n m t u v e f h = ap (passed_over m) f ∙ sym (ap (λ k. passed_over k t) e) ∙ h
+
+pub none_passed : (n : ℕ) (t v : Rows) → n ≡ 0 → passed_over n t ≡ v → t ≡ v
+none_passed n t v e h = sym (ap (λ k. passed_over k t) e) ∙ h
+
+pub longer_passed : (t u v : Rows) → IsLonger t u → v ≡ one_deeper (pushed u R.Insert2) → IsLonger t v
+longer_passed t u v w e = rw e (longer_still t u (one_deeper (pushed u R.Insert2)) w (record { added = (R.Insert2, u.depth) ∷ []; is = refl }))
+
 -- the place of a key that is linked is before what isn't
 is_before : (c : Context) (k : Key) (n : Next) (i : Id) → LeadsOn c (Some k) → next k c ≡ Some n → next (Elem i) c ≡ None → ((j : Id) → n ≡ To j → id_cmp i j ≢ Less) → IsBefore n i
 is_before c k Tail i w e f g = tt

@@ -1,9 +1,10 @@
 //! The search for the place of an insert: past as many elements at once as the store tells of, if all have greater
 //! identifiers, else past one.
 
-ghost use Rattle.std.specs.Prelude.{◌≡◌, ◌≢◌, ◌×◌, None, Some, IfOk, IfSome, OnOk};
+ghost use Rattle.std.specs.Prelude.{◌≡◌, ◌≢◌, ◌↔◌, ◌<◌, IsTrue, None, Some, IfOk, IfSome, OnOk};
 ghost use Rattle.std.specs.declared.cmp.Ordering.TheVariants.{Less};
 ghost use Rattle.jc_rules.specs.declared.id.Id.{Id as AnyId};
+ghost use Rattle.jc_rules.specs.declared.key.Key.TheVariants.{Elem};
 ghost use Rattle.jc_rules.specs.declared.key.Next.TheVariants.{Elem as To};
 ghost use Rattle.jc_rules.specs.declared.operation.Mutation.TheVariants.{Insert};
 ghost use Rattle.jc_rules.specs.declared.value.Value.{Value as AnyValue};
@@ -14,10 +15,10 @@ ghost use Rattle.jc_rules.specs.Trace.{IsLonger};
 ghost use Rattle.jc_tree.specs.Tree.{HasPlace, here};
 ghost use Rattle.jc_apply.specs.Fits.{IsUnlinked};
 ghost use Rattle.jc_apply.specs.AppliesAlong.{Passes};
-ghost use Rattle.jc_apply.specs.Passing.{PassesOn, passed_over};
+ghost use Rattle.jc_apply.specs.Passing.{LeadsOverGreater, PassesOn, passed_over};
 
 use jc_rules::{Id, Key, Next, Op, Rule, Tagged, Trace, compare_ids};
-use jc_tree::{Hint, Place, TreeStore};
+use jc_tree::{Hint, Place, Stretch, TreeStore};
 use std::alloc::AllocError;
 
 /// The most elements that are passed at once: as many as a store tells of in a word.
@@ -64,6 +65,35 @@ fn greater_element(next: Next, id: Id) -> Option<Id>
     }
 }
 
+/// Whether the first identifier is less than the second.
+fn is_below(first: Id, second: Id) -> bool
+    ensures { IsTrue result ↔ id_cmp first second ≡ Less }
+{
+    compare_ids(first, second).is_lt()
+}
+
+/// What the store tells of the elements behind the search's key, if their identifiers are all greater than the
+/// given one.
+fn stretch_above<S: TreeStore>(
+    store: &S,
+    place: Place,
+    at: &[Tagged],
+    search: &Search,
+    id: Id,
+) -> Option<Stretch>
+    requires there { HasPlace at.now (S.tree store.now) }
+    requires named { S.names store.now place at.now }
+    ensures some { IfSome result (λ s. 0 < s.count) }
+    ensures leads { IfSome result (λ s.
+        LeadsOverGreater (here at.now (S.tree store.now)) id search.now.key s.count (Elem s.last)) }
+{
+    let stretch = store.stretch_by(place, at, &search.key, search.hint, MOST)?;
+    if is_below(id, stretch.least) {
+        return Some(stretch);
+    }
+    None
+}
+
 /// Appends the rule for each of so many elements that are passed.
 fn pass_over(count: usize, trace: &mut Trace) -> Result<(), AllocError>
     ensures ok { OnOk result (trace.new ≡ passed_over count trace.old) }
@@ -97,15 +127,16 @@ fn pass_on<S: TreeStore>(
     let Some(element) = greater_element(search.next, id) else {
         return Ok(None);
     };
-    let stretch = store.stretch_by(place, at, &search.key, search.hint, MOST);
-    if let Some(stretch) = stretch
-        && compare_ids(id, stretch.least).is_lt()
-    {
-        pass_over(stretch.count, trace)?;
-        return Ok(Some((Key::Elem(stretch.last), stretch.hint)));
+    match stretch_above(store, place, at, search, id) {
+        Some(stretch) => {
+            pass_over(stretch.count, trace)?;
+            Ok(Some((Key::Elem(stretch.last), stretch.hint)))
+        }
+        None => {
+            pass_over(1, trace)?;
+            Ok(Some((Key::Elem(element), search.next_hint)))
+        }
     }
-    pass_over(1, trace)?;
-    Ok(Some((Key::Elem(element), search.next_hint)))
 }
 
 /// Goes from the operation's last key past the elements there whose identifier is greater than the

@@ -22,7 +22,7 @@ use Rattle.jc_tree.specs.Tree.{or_no_entries, has_ids}
 use Rattle.jc_tree.proofs.ChainedLeadsLemmas.{Leads, leads_from, leads_on, steps}
 use Rattle.jc_tree.specs.Blocks.{IsAtMost, presence_bit}
 use Rattle.jc_tree.specs.Stretches.{LeadsOver}
-use Rattle.jc_cursor.specs.Along.{rule_by, gone_over, count_bits, GoesOn}
+use Rattle.jc_cursor.specs.Along.{rule_of_bit, gone_over, count_bits, GoesOn}
 use Rattle.jc_cursor.specs.WayDown.{IsGrown}
 use Rattle.jc_cursor.proofs.TraceGrowsLemmas.{not_grown, grown_below}
 
@@ -114,7 +114,7 @@ along_over (suc n) c i k j bits least m l t u w e h a =
     some : 0 < m
     some = omega (arith, w)
 
-    go : (b : Bool) → has_ids (or_no_entries (presence (Elem h.0) c)) ≡ b → ((m2 : ℕ) (u2 : Rows) → n ≤ m2 → m2 ≡ l + count_bits n (bits / 2) → Along c i (Elem h.0) m2 t u2 → Along c i j l t (gone_over n (bits / 2) u2)) → Along c i j l t (gone_over n (bits / 2) (one_deeper (pushed u (rule_by (bits % 2)))))
+    go : (b : Bool) → has_ids (or_no_entries (presence (Elem h.0) c)) ≡ b → ((m2 : ℕ) (u2 : Rows) → n ≤ m2 → m2 ≡ l + count_bits n (bits / 2) → Along c i (Elem h.0) m2 t u2 → Along c i j l t (gone_over n (bits / 2) u2)) → Along c i j l t (gone_over n (bits / 2) (one_deeper (pushed u (rule_of_bit (bits % 2)))))
     go true p ih =
         let bit : bits % 2 ≡ 1 = presence_one h.0 c bits p h.2 in
         rw bit (ih (m - 1) (one_deeper (pushed u R.Idx3)) (omega (arith, w)) (omega (arith, e, bit, some)) (along_counted c i k (Elem h.0) m (m - 1) h.0 t u (one_deeper (pushed u R.Idx3)) some refl h.1 refl (has_one (presence (Elem h.0) c) p) refl a))
@@ -172,9 +172,16 @@ one_absent c k j i m l t u some le e je p ue = record {
   rows = ue;
 }
 
+pub rule_of_zero : (b : ℕ) → b ≡ 0 → R.Idx4 ≡ rule_of_bit b
+rule_of_zero b h = sym (ap rule_of_bit h)
+
+pub rule_of_one : (b : ℕ) → b ≢ 0 → R.Idx3 ≡ rule_of_bit b
+rule_of_one zero h = absurd (h refl)
+rule_of_one (suc b) h = refl
+
 -- one row of those that are gone over
 
-pub row_over : (n m bits : ℕ) (r : Rule) (t u v : Rows) → n ≡ suc m → rule_by (bits % 2) ≡ r → u ≡ one_deeper (pushed t r) → gone_over n bits t ≡ v → gone_over m (bits / 2) u ≡ v
+pub row_over : (n m bits : ℕ) (r : Rule) (t u v : Rows) → n ≡ suc m → rule_of_bit (bits % 2) ≡ r → u ≡ one_deeper (pushed t r) → gone_over n bits t ≡ v → gone_over m (bits / 2) u ≡ v
 row_over n m bits r t u v e f g h =
     ap (gone_over m (bits / 2)) (g ∙ ap (λ q. one_deeper (pushed t q)) (sym f)) ∙ sym (ap (λ k. gone_over k bits t) e) ∙ h
 
@@ -182,10 +189,6 @@ pub bit_over : (n m bits b p all : ℕ) → n ≡ suc m → bits % 2 ≡ b → p
 bit_over n m bits b p all e f h =
     let one : count_bits n bits ≡ bits % 2 + count_bits m (bits / 2) = ap (λ k. count_bits k bits) e in
     omega (arith, one, f, h)
-
--- a bit that isn't set
-pub even_bit : (bits : ℕ) → bits % 2 ≢ 1 → bits % 2 ≡ 0
-even_bit bits h = omega (arith, h)
 
 pub none_over : (n bits : ℕ) (t v : Rows) → n ≡ 0 → gone_over n bits t ≡ v → t ≡ v
 none_over n bits t v e h = sym (ap (λ k. gone_over k bits t) e) ∙ h

@@ -9,14 +9,14 @@ use Rattle.jc_rules.specs.Trace.{Rows, pushed, one_deeper}
 use Rattle.jc_tree.specs.Stretches.{LeadsOver}
 
 -- the rule that goes over an element, by its bit: whether it is present
-abbrev pub rule_by : ℕ → Rule
-rule_by zero = R.Idx4
-rule_by (suc n) = R.Idx3
+abbrev pub rule_of_bit : ℕ → Rule
+rule_of_bit zero = R.Idx4
+rule_of_bit (suc n) = R.Idx3
 
 -- the trace once so many elements were gone over, whose bits these are, the lowest first
 abbrev pub gone_over : ℕ → ℕ → Rows → Rows
 gone_over zero bits t = t
-gone_over (suc n) bits t = gone_over n (bits / 2) (one_deeper (pushed t (rule_by (bits % 2))))
+gone_over (suc n) bits t = gone_over n (bits / 2) (one_deeper (pushed t (rule_of_bit (bits % 2))))
 
 -- how many of them are present
 abbrev pub count_bits : ℕ → ℕ → ℕ

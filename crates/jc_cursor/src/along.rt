@@ -14,7 +14,7 @@ ghost use Rattle.jc_rules.specs.WellFormed.{IsChained};
 ghost use Rattle.jc_rules.specs.Table.{cursor};
 ghost use Rattle.jc_rules.specs.Trace.{at_depth};
 ghost use Rattle.jc_tree.specs.Tree.{HasPlace, here};
-ghost use Rattle.jc_cursor.specs.Along.{GoesOn, count_bits, gone_over};
+ghost use Rattle.jc_cursor.specs.Along.{GoesOn, count_bits, gone_over, rule_of_bit};
 ghost use Rattle.jc_cursor.specs.WayDown.{IsGrown};
 ghost use Rattle.jc_cursor.specs.Evaluates.{eval_cause_of};
 
@@ -43,6 +43,13 @@ fn element_of(next: Option<Next>) -> Option<Id>
     }
 }
 
+/// The rule that goes over an element, by its bit.
+fn rule_by(bit: u64) -> Rule
+    ensures { result ≡ rule_of_bit bit }
+{
+    if bit == 0 { Rule::Idx4 } else { Rule::Idx3 }
+}
+
 /// Appends the rules that go over so many elements, by their bits. Returns how many are present.
 fn go_over(count: usize, bits: u64, trace: &mut Trace) -> Result<usize, AllocError>
     ensures rows { OnOk result (trace.new ≡ gone_over count bits trace.old) }
@@ -53,12 +60,9 @@ fn go_over(count: usize, bits: u64, trace: &mut Trace) -> Result<usize, AllocErr
     let mut rest = bits;
     let mut present = 0;
     for step in 0..count {
-        if rest % 2 == 1 {
-            trace.open(Rule::Idx3)?;
-            present += 1;
-        } else {
-            trace.open(Rule::Idx4)?;
-        }
+        let bit = rest % 2;
+        trace.open(rule_by(bit))?;
+        present += bit as usize;
         rest /= 2;
     }
     Ok(present)

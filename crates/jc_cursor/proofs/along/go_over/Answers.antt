@@ -1,8 +1,7 @@
-use Rattle.std.proofs.Common.{◌≡◌, ◌-◌, ◌+◌, suc, refl, sym, ◌∙◌, ap, arith}
-use Rattle.jc_rules.specs.declared.rule.Rule.TheVariants as R
-use Rattle.jc_cursor.specs.Along.{rule_by, gone_over, count_bits}
+use Rattle.std.proofs.Common.{◌≡◌, ◌-◌, ◌+◌, refl, sym, ◌∙◌, ap, arith}
+use Rattle.jc_cursor.specs.Along.{gone_over, count_bits}
 use Rattle.jc_cursor.proofs.TraceGrowsLemmas.{not_grown, grown_below}
-use Rattle.jc_cursor.proofs.ElementsLemmas.{row_over, bit_over, even_bit, none_over, no_bits}
+use Rattle.jc_cursor.proofs.ElementsLemmas.{row_over, bit_over, none_over, no_bits}
 use Rattle.jc_cursor.proofs.along.go_over.Goals as goal
 
 pub loop-step-init : goal.loop-step-init
@@ -14,7 +13,15 @@ loop-step-init c = record {
 }
 
 pub loop-step-preserved : goal.loop-step-preserved
-loop-step-preserved c = ?
+loop-step-preserved c = record {
+  rows = row_over _ _ c.loop-step.rest _ _ _ _ (omega (arith, c.loop-step-test.true)) (sym c.rule_by.ensures) c.in_ok-open.ensures.ok c.loop-step.invariant.rows;
+  present = bit_over _ _ c.loop-step.rest _ _ _ (omega (arith, c.loop-step-test.true)) refl c.loop-step.invariant.present;
+  most = omega (arith, c.loop-step.invariant.most);
+  grown = grown_below _ _ _ _ c.loop-step.invariant.grown c.in_ok-open.ensures.ok;
+}
 
-pub returns : goal.returns
-returns c = ?
+pub returns-clause-rows : goal.returns-clause-rows
+returns-clause-rows c = none_over _ c.loop-step.rest _ _ (omega (arith, c.loop-step-test.false)) c.loop-step.invariant.rows
+
+pub returns-clause-present : goal.returns-clause-present
+returns-clause-present c = no_bits _ c.loop-step.rest _ _ (omega (arith, c.loop-step-test.false)) c.loop-step.invariant.present
