@@ -218,11 +218,11 @@ fn number_in(blocks: &Blocks, keys: &KeyTable, key: &Key) -> Option<usize>
     ensures distinct { AreNumbered keys.now.keys }
     ensures numbered { IsNumbered keys.now }
 {
-    let number = keys.number(key);
+    keys.are_numbered();
     if blocks.is_empty() {
         return None;
     }
-    number
+    keys.number(key)
 }
 
 /// Appends the element that follows the block's last one to the block, if it is in none. Returns whether it
