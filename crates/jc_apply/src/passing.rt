@@ -40,7 +40,7 @@ fn search_at<S: TreeStore>(store: &S, place: Place, at: &[Tagged], key: Key, hin
     requires named { S.names store.now place at.now }
     requires linked { next_of key (here at.now (S.tree store.now)) ≢ None }
     ensures key { result.key ≡ key }
-    ensures next { next_of key (here at.now (S.tree store.now)) ≡ Some result.next }
+    ensures next { next_of result.key (here at.now (S.tree store.now)) ≡ Some result.next }
 {
     let step = store.step_by(place, at, &key, hint);
     let Some(next) = step.next else {

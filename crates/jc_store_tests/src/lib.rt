@@ -5,6 +5,8 @@
 #[cfg(test)]
 mod by_hand;
 #[cfg(test)]
+mod chains;
+#[cfg(test)]
 mod clearing;
 #[cfg(test)]
 mod documents;

@@ -1,6 +1,7 @@
 //! The tests by their names. The keys have one owner here, and two new stores another, since an owner of much is dear to
 //! prove.
 
+use crate::chains::change_chains;
 use crate::documents::all_work;
 use crate::keys::Keys;
 use crate::large::hold_many;
@@ -24,6 +25,7 @@ pub enum Turn {
     Steps(&'static str, Steps, Steps),
     Changes(Steps),
     Walk,
+    Chains,
     ManyKeys,
     Members,
 }
@@ -33,6 +35,7 @@ fn take(rt: &impl Abort, keys: &Keys, twins: &mut Twins, turn: &Turn) -> Result<
         Turn::Steps(title, way, steps) => twins.play_there(rt, keys, title, way, steps),
         Turn::Changes(way) => change_and_undo(rt, keys, twins, way),
         Turn::Walk => walk_all(rt, keys, twins),
+        Turn::Chains => change_chains(rt, keys, twins),
         Turn::ManyKeys => hold_many(rt, keys, twins),
         Turn::Members => show_members(rt, keys, twins),
     }
@@ -49,6 +52,7 @@ enum Test {
     WorkedSteps,
     ManyChanges,
     StoresWalkAlike,
+    ListsGoOnAlike,
     ManyKeys,
     KeysAndIdentifiers,
     Trees,
@@ -63,6 +67,7 @@ fn run(rt: &impl Abort, keys: &Keys, test: Test) -> Result<(), AllocError> {
         Test::WorkedSteps => worked_steps(rt, keys),
         Test::ManyChanges => many_changes(rt, keys),
         Test::StoresWalkAlike => in_new_stores(rt, keys, &Turn::Walk),
+        Test::ListsGoOnAlike => in_new_stores(rt, keys, &Turn::Chains),
         Test::ManyKeys => in_new_stores(rt, keys, &Turn::ManyKeys),
         Test::KeysAndIdentifiers => keys_and_identifiers(rt, keys),
         Test::Trees => in_new_stores(rt, keys, &Turn::Members),
@@ -91,6 +96,11 @@ fn many_changes_are_taken_back(rt: HostRuntime) -> Result<(), Fail> {
 #[test]
 fn stores_walk_alike(rt: HostRuntime) -> Result<(), Fail> {
     Ok(run_with_keys(&rt, rt.alloc(), Test::StoresWalkAlike)?)
+}
+
+#[test]
+fn lists_go_on_alike(rt: HostRuntime) -> Result<(), Fail> {
+    Ok(run_with_keys(&rt, rt.alloc(), Test::ListsGoOnAlike)?)
 }
 
 #[test]

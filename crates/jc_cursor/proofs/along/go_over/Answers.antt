@@ -1,4 +1,4 @@
-use Rattle.std.proofs.Common.{◌≡◌, ◌-◌, ◌+◌, refl, sym, ◌∙◌, ap, arith}
+use Rattle.std.proofs.Common.{◌≡◌, ◌-◌, ◌+◌, ◌%◌, refl, sym, ◌∙◌, ap, arith}
 use Rattle.jc_cursor.specs.Along.{gone_over, count_bits}
 use Rattle.jc_cursor.proofs.TraceGrowsLemmas.{not_grown, grown_below}
 use Rattle.jc_cursor.proofs.ElementsLemmas.{row_over, bit_over, none_over, no_bits}
@@ -14,14 +14,14 @@ loop-step-init c = record {
 
 pub loop-step-preserved : goal.loop-step-preserved
 loop-step-preserved c = record {
-  rows = row_over _ _ c.loop-step.rest _ _ _ _ (omega (arith, c.loop-step-test.true)) (sym c.rule_by.ensures) c.in_ok-open.ensures.ok c.loop-step.invariant.rows;
-  present = bit_over _ _ c.loop-step.rest _ _ _ (omega (arith, c.loop-step-test.true)) refl c.loop-step.invariant.present;
+  rows = row_over (c.args.count - c.loop-step.step) (c.args.count - (c.loop-step.step + 1)) c.loop-step.rest _ _ _ _ (omega (arith, c.loop-step-test.true)) (sym c.rule_by.ensures) c.in_ok-open.ensures.ok c.loop-step.invariant.rows;
+  present = bit_over (c.args.count - c.loop-step.step) (c.args.count - (c.loop-step.step + 1)) c.loop-step.rest (c.loop-step.rest % 2) c.loop-step.present (count_bits c.args.count c.args.bits) (omega (arith, c.loop-step-test.true)) refl c.loop-step.invariant.present;
   most = omega (arith, c.loop-step.invariant.most);
   grown = grown_below _ _ _ _ c.loop-step.invariant.grown c.in_ok-open.ensures.ok;
 }
 
 pub returns-clause-rows : goal.returns-clause-rows
-returns-clause-rows c = none_over _ c.loop-step.rest _ _ (omega (arith, c.loop-step-test.false)) c.loop-step.invariant.rows
+returns-clause-rows c = none_over (c.args.count - c.loop-step.step) c.loop-step.rest _ _ (omega (arith, c.loop-step-test.false)) c.loop-step.invariant.rows
 
 pub returns-clause-present : goal.returns-clause-present
-returns-clause-present c = no_bits _ c.loop-step.rest _ _ (omega (arith, c.loop-step-test.false)) c.loop-step.invariant.present
+returns-clause-present c = no_bits (c.args.count - c.loop-step.step) c.loop-step.rest _ _ (omega (arith, c.loop-step-test.false)) c.loop-step.invariant.present
