@@ -3,6 +3,7 @@ use Rattle.std.proofs.Common.{◌≡◌, ◌≢◌, ℕ, suc, zero, ◌-◌, ◌
 use Rattle.jc_rules.specs.declared.id.Id.{Id}
 use Rattle.jc_rules.specs.declared.key.Key.{Key}
 use Rattle.jc_rules.specs.declared.key.Key.TheVariants.{Head, Elem}
+use Rattle.jc_rules.specs.declared.key.Next.{Next}
 use Rattle.jc_rules.specs.declared.key.Next.TheVariants.{Elem as To}
 use Rattle.jc_rules.specs.declared.refusal.Refusal.TheVariants as F
 use Rattle.jc_rules.specs.declared.rule.Rule.{Rule}
@@ -14,7 +15,6 @@ use Rattle.jc_rules.specs.Refused.{Cause, because, Refused, past_end, in_counted
 use Rattle.jc_rules.specs.WellFormed.{IsChainedList}
 use Rattle.jc_rules.specs.Table.{cursor, IsEmptyIds}
 use Rattle.jc_rules.specs.Trace.{Rows, pushed, one_deeper, at_depth}
-use Rattle.std.specs.declared.cmp.Ordering.{Ordering}
 use Rattle.std.specs.declared.cmp.Ordering.TheVariants.{Equal, Greater}
 use Rattle.jc_rules.proofs.IdsLemmas.{equal_itself}
 use Rattle.jc_rules.proofs.DerivesLemmas.{by_axiom, one_premise}
