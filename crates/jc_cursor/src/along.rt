@@ -1,7 +1,7 @@
 //! The walk along a list to an element by its index: over as many elements at once as the store tells of, else over
 //! one. The trace is left at the depth of the last rule's premises.
 
-ghost use Rattle.std.specs.Prelude.{◌≡◌, ◌≢◌, ◌×◌, ◌<◌, ◌≤◌, None, Some, [], IfOk, IfErr, IfSome, OnOk};
+ghost use Rattle.std.specs.Prelude.{◌≡◌, ◌≢◌, ◌<◌, ◌≤◌, None, Some, [], IfOk, IfErr, IfSome, OnOk};
 ghost use Rattle.jc_rules.specs.declared.key.Key.TheVariants.{Head};
 ghost use Rattle.jc_rules.specs.declared.id.Id.{Id as AnyId};
 ghost use Rattle.jc_rules.specs.declared.key.Next.TheVariants.{Elem as To};
