@@ -64,11 +64,21 @@ class Kept:
             os.replace(f"{self.path}.new", self.path)
 
 
+def seen_elsewhere(items):
+    """The items of a crate as others see them: of a type whose value alone is seen, what is inside needs another name."""
+    for item in items:
+        if item.outer:
+            yield item.outer
+            yield item._replace(names=frozenset({item.inside}), owners=None, trait=None)
+        else:
+            yield item
+
+
 class Statements:
     """What a crate and those below it state, by the names that lead to it."""
 
-    def __init__(self, files):
-        self.items = [item for file in files for item in file.items]
+    def __init__(self, items):
+        self.items = items
         self.declared = frozenset().union(*(item.names for item in self.items if item.names))
         self.by_name, self.by_owner = collections.defaultdict(list), collections.defaultdict(list)
         self.owners, self.always = {}, []
@@ -163,8 +173,9 @@ class Tree:
 
     @functools.cache
     def stated(self, name):
-        under = [name, *below(self.crates, name)]
-        return Statements([file for each in under for file in self.files(each).values()])
+        own, *others = [[item for file in self.files(each).values() for item in file.items]
+                        for each in [name, *below(self.crates, name)]]
+        return Statements(own + [item for each in others for item in seen_elsewhere(each)])
 
     @functools.cache
     def sum_of_statements(self, name):

@@ -12,8 +12,9 @@ import sys
 # of these is ours either, it needs no owner. `trait` is that of whose impl it is a method: if that isn't ours, it needs
 # no name. `sum` is that of what is stated, `mentions` are the names there; `whole` and `all_mentions` are those of all
 # the text. `body` is a function's body, and `place` tells where its proofs are: its type, its name, its cycle's name.
-Item = collections.namedtuple("Item", "names owners trait sum mentions whole all_mentions body place",
-                              defaults=(None, frozenset(), None))
+# `inside` is the name by which other crates have what is inside a type, and `outer` what they see of it otherwise.
+Item = collections.namedtuple("Item", "names owners trait sum mentions whole all_mentions body place inside outer",
+                              defaults=(None, None))
 # A file: its items, the names that it has, and the attributes of all that is in it.
 File = collections.namedtuple("File", "items scope head")
 
@@ -33,6 +34,11 @@ KIND = re.compile(r"^(?:pub(?:\([a-z]+\))? )?(ghost use|use|mod|struct|enum|trai
                   re.MULTILINE)
 # An import, which may stand inside an impl or a function, and whether others have it too.
 IMPORT = re.compile(r"^ *(pub(?:\([a-z]+\))? )?(?:ghost )?use ([^;]*);", re.MULTILINE)
+# The model of a type; what it has that other crates don't see, with its imports; the fields of a struct; a public one.
+MODEL = re.compile(r"^impl(?:<.*?>)? Model for (\w+)", re.MULTILINE)
+UNSEEN = re.compile(r"^    ghost (?:use [^;]*|(?:view|invariant) = .*?\});\n+", re.MULTILINE | re.DOTALL)
+FIELDS = re.compile(r"\{\n.*\n\}", re.DOTALL)
+PUBLIC_FIELD = re.compile(r"^    pub\b", re.MULTILINE)
 # A name or a path, with the sign before it where it goes on from what isn't one, and that of a call behind it.
 PATH = re.compile(r"(::|(?<!\.)\.)?((?:[^\W\d]|◌)[\w'◌]*(?:-[\w'◌]+)*"
                   r"(?:(?:\.|::)[\w'◌]+(?:-[\w'◌]+)*)*)(?=(\(|::<)?)")
@@ -97,13 +103,20 @@ def in_sources(found):
     return {*found[-1:], *(name for name in found if name[0].isupper())} - FIXED
 
 
+def inside_of(crate, name):
+    """The name by which other crates have what is inside a type of this one."""
+    return f"inside.{crate}.{name}"
+
+
 def named_by(path):
-    """The names of items in a whole path of definitions and proofs: those of sources, where it leads to such, or else
-    all on it from the file on."""
+    """The names of items in a whole path of definitions and proofs: those of sources, where it leads to such, with what
+    is inside their type, or else all on it from the file on."""
     found = path.split(".")
     for word in ("declared", "contracts"):
         if word in found:
-            return in_sources(found[found.index(word) + 1:])
+            behind = found[found.index(word) + 1:]
+            types = [name for name in behind if name[0].isupper()]
+            return in_sources(behind) | {inside_of(found[1], name) for name in types[:1]}
     names = {".".join(found[:count]) for count in range(FILE_AT, len(found) + 1)}
     return names | in_sources(found[FILE_AT - 1:]) if MADE_OF_TYPE.search(path) else names
 
@@ -159,19 +172,32 @@ class Reader:
 
     def __init__(self, path):
         self.path, self.items, self.imports, self.declared, self.head = path, [], [], {}, []
+        # By the number of an item: the type whose inside it has, and the text that other crates see of it.
+        self.inside = {}
 
     def add(self, names, text, owners=None, trait=None, whole=None, body=None, place=None):
         if not owners:
             self.declared.update((name, name) for name in names or ())
         self.items.append((names, owners, trait, text, text if whole is None else whole, body, place))
 
+    def add_inside(self, name, names, text, outer, owners=None):
+        """Adds what is inside a type, of which other crates see less."""
+        self.add(names, text, owners)
+        self.inside[len(self.items) - 1] = name, outer
+
     def read(self):
         scope, items = Scope(self.path.split("/")[0], self.imports, self.declared), []
-        for names, owners, trait, text, whole, body, place in self.items:
+        for number, (names, owners, trait, text, whole, body, place) in enumerate(self.items):
             mentions, used = scope.mentioned(text)
             all_mentions, all_used = (mentions, used) if whole is text else scope.mentioned(whole)
-            items.append(Item(names, owners, trait, sum_of(self.path, text, used), mentions,
-                              sum_of(self.path, whole, all_used), all_mentions, body, place))
+            item = Item(names, owners, trait, sum_of(self.path, text, used), mentions,
+                        sum_of(self.path, whole, all_used), all_mentions, body, place)
+            if number in self.inside:
+                name, outer = self.inside[number]
+                mentions, used = scope.mentioned(outer)
+                seen = item._replace(sum=sum_of(self.path, outer, used), mentions=mentions)
+                item = item._replace(inside=inside_of(scope.crate, name), outer=seen)
+            items.append(item)
         return File(items, scope, "".join(self.head))
 
 
@@ -183,8 +209,19 @@ class Source(Reader):
         text = COMMENT.sub("", text)
         for _, imports in IMPORT.findall(text):
             self.imports += imports_of(imports)
-        for block in self.blocks(text, ""):
+        blocks = self.blocks(text, "")
+        self.hidden = {*self.hidden_in(text, blocks)}
+        for block in blocks:
             self.take(block)
+
+    @staticmethod
+    def hidden_in(text, blocks):
+        """The types of which other crates see the value alone: they have a model, and no public field."""
+        models = {*MODEL.findall(text)}
+        for block in blocks:
+            found = KIND.search(block)
+            if found and found[1] == "struct" and found[2] in models and not PUBLIC_FIELD.search(block):
+                yield found[2]
 
     @staticmethod
     def blocks(text, margin):
@@ -213,6 +250,8 @@ class Source(Reader):
             self.take_impl(block, block[found.start():])
         elif kind == "trait":
             self.take_trait(block, name)
+        elif kind == "struct" and name in self.hidden:
+            self.add_inside(name, {name}, block, FIELDS.sub("{ .. }", block))
         elif name and kind != "mod":
             self.add({name}, block)
         else:
@@ -257,8 +296,11 @@ class Source(Reader):
         trait, _, of = head[2].rpartition(" for ")
         owners = (names_in(of) - parameters, names_in(trait) - parameters)
         name = re.split(r"[<(]", trait)[0].split("::")[-1].strip() if trait else None
-        self.add(None, rest, owners=owners)
         base = re.search(r"[A-Z]\w*", of)
+        if name == "Model" and base and base[0] in self.hidden:
+            self.add_inside(base[0], None, rest, UNSEEN.sub("", rest), owners)
+        else:
+            self.add(None, rest, owners=owners)
         for function, part in functions:
             self.take_function(part, function, owners=owners, trait=name, type=base[0] if base else "")
 

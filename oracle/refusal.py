@@ -10,13 +10,15 @@ import difflib
 import re
 import unicodedata
 
-from .grammar import END, NAME, NAME_RUN, NUMBER, NUMBER_RUN, SIGN, STRING, Fault, Reader, token
+from .grammar import (END, MOST_BYTES, NAME, NAME_RUN, NUMBER, NUMBER_RUN, SELECTORS, SIGN, STRING, Fault, Reader,
+                      token)
 from .hints import HINTS
 from .sentences import SENTENCES
 from .texts import REFUSALS
 
 # Two names and a number that the grammar tells apart by where they are.
 REPLICA, VARIABLE, DIGITS = "replica", "variable", "digits"
+NAMES = {REPLICA: NAME, VARIABLE: NAME}
 KINDS = {NAME: "a name", NUMBER: "a number", STRING: "a string", END: "the end of the text", DIGITS: "digits",
          REPLICA: "the name of a replica", VARIABLE: "a variable"}
 UNSEEN = {"\n": "a line break", "\r": "a carriage return", "\t": "a tab", "\ufeff": "a byte order mark"}
@@ -26,6 +28,14 @@ BLANKS = b" \t\r\n"
 MOST_SHOWN, WIDEST, MOST_NAMES = 40, 100, 10
 # The faults for which it matters how the sentence begins.
 OF_SENTENCES = (7, 8, 14, 16, 18)
+
+# What a program may be told that could stand at an offset, in this order, each with the spelling by which it is tried
+# (docs/FORMATS.md, "What could stand there").
+TOLD = {**{word: word for word in (b"yield", b"let", b"doc", *SELECTORS, b"insertAfter", b"delete", b"true", b"false",
+                                   b"null", b"replica", b"given", b"schedule", b"exec", b"send", b"recv", b"take",
+                                   b"apply", b"done")},
+        NAME: b"x", DIGITS: b"100", NUMBER: b"0.5", STRING: b'""',
+        **{sign: sign for sign in (b".", b":=", b"=", b"(", b")", b"[", b"]", b"{", b";", b",", b"}")}}
 
 # Where an offset is, from line 1 and column 1 on, in characters, and that line with a caret below the column.
 Place = collections.namedtuple("Place", "line column excerpt")
@@ -132,6 +142,13 @@ def wanted_behind(text, part):
         pass
     is_at_end = reader.tokens[reader.next][0] == END and reader.asked_at == reader.next
     return [each for each in reader.wanted if each != END] if is_at_end else []
+
+
+def expected_at(text, offset):
+    """What could stand at the offset at which a scenario's text fits nothing or ends too early, as a program is told."""
+    wanted = {NAMES.get(part, part) for part in reader_of(text, SCENARIO).wanted}
+    return [told if isinstance(told, bytes) else told.encode() for told, tried in TOLD.items()
+            if told in wanted and offset + 1 + len(tried) <= MOST_BYTES]
 
 
 # ---- places

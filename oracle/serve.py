@@ -10,6 +10,7 @@ from .effects import Since
 from .grammar import MOST_BYTES, NAME_RUN, NUMBER_RUN, Reader, read, string_end
 from .journal import Before, Journal, lines_of, rules_of
 from .lines import BAD
+from .refusal import expected_at
 from .requests import AnyName, NotRead, TooMany, read_request
 from .rules import Stuck, step
 from .texts import REFUSALS, array, object_of, string
@@ -22,6 +23,8 @@ GIVEN_STUCK, AT_START, PAST_SCHEDULE, READ_FAILED = 44, 50, 52, 4
 LOOKS = ("view", "state", "brief", "eval", "event")
 # Refusals at whose offset a token begins, or a number that is none; and that where an escape does, of six bytes.
 AT_TOKEN, AT_ESCAPE, LENGTH_OF_ESCAPE = {5, 6, 7, *range(9, 13), *range(14, 20)}, 4, 6
+# Those of a token that doesn't fit, and of a text that ends too early.
+MISFITS = (7, 8)
 TRUE, QUIT = b"true", ("quit",)
 
 
@@ -60,11 +63,17 @@ def end_of(text, offset, refusal_number):
     return min(offset + 1 + len(behind) - len(behind.lstrip(CONTINUATION)), len(text))
 
 
-def refused_text(refusal_number, offset, text):
-    """Why a text is refused, and where."""
+def refused_text(refusal_number, offset, text, expected=None):
+    """Why a text is refused, where, and what could stand there."""
     line = text[text.rfind(b"\n", 0, offset) + 1:offset].translate(None, CONTINUATION)
     return refused(refusal_number, column=number(len(line) + 1), end=number(end_of(text, offset, refusal_number)),
-                   line=number(text.count(b"\n", 0, offset) + 1), offset=number(offset))
+                   expected=expected, line=number(text.count(b"\n", 0, offset) + 1), offset=number(offset))
+
+
+def refused_scenario(refusal_number, offset, text):
+    """Why a text is no scenario, and where."""
+    expected = array(map(string, expected_at(text, offset))) if refusal_number in MISFITS else None
+    return refused_text(refusal_number, offset, text, expected)
 
 
 # ---- texts
@@ -349,7 +358,7 @@ class Subject:
         self.text, self.served, self.refusal = text, None, None
         scenario, fault = read(text)
         if fault:
-            self.refusal = refused_text(fault[1], fault[0], text)
+            self.refusal = refused_scenario(fault[1], fault[0], text)
         else:
             self.served = Served(scenario)
             self.refusal = self.served.refusal

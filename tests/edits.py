@@ -13,8 +13,8 @@ NAME = re.compile(r"[A-Za-z0-9_-][A-Za-z0-9_.-]*\.edit")
 FOLDERS = ("must-fail", "more-edits")
 # The crates whose edits the gate leaves to the record, all of them. docs/DECISIONS.md says why.
 BY_RECORD = {f"jc_{name}" for name in """
-    answers app choice cli cursor dump effects journal json listings looks parser printer program replies requests
-    scenario serve session tree view weave
+    answers app choice cli cursor dump effects expected journal json listings looks parser printer replies requests
+    scenario session tree view weave
     """.split()}
 
 

@@ -277,7 +277,7 @@ MENTIONED = (
     ("a..pair.len()", "len"),
     ("is_one result.now", "Rattle.jc_a.specs.Ones Rattle.jc_a.specs.Ones.is_one"),
     ("a ⊑ b", "Rattle.jc_a.specs.Ones Rattle.jc_a.specs.Ones.◌⊑◌"),
-    ("P.Left", "Left Pair TheVariants"),
+    ("P.Left", "Left Pair TheVariants inside.jc_a.Pair"),
     ("twos.four", "Rattle.jc_a.specs.Twos Rattle.jc_a.specs.Twos.four"),
     ("Rattle.jc_b.proofs.Some.lem x", "Rattle.jc_b.proofs.Some Rattle.jc_b.proofs.Some.lem"),
     ("#[tactic(auto, using(crate::proofs::Some::lem))]",
@@ -324,6 +324,18 @@ pub struct Pair {
     first: u8,
 }
 
+pub struct Count {
+    number: u8,
+}
+
+impl Model for Count {
+    ghost use Rattle.jc_a.specs.Ones.{three};
+
+    ghost Value = { N };
+
+    ghost view = { λ a. three + a.number };
+}
+
 impl Display for Pair {
     fn fmt(&mut self)
         ensures { is_one 1 }
@@ -339,7 +351,7 @@ impl Shows for Pair {
 }
 
 impl Pair {
-    pub fn first(&self) -> u8
+    pub fn first(&self, count: &Count) -> u8
         ensures { is_one result }
     {
         self.first
@@ -396,14 +408,16 @@ fn pong() -> u8 {
 REACHING = {
     "crates/jc_a/src/lib.rt": LOWEST,
     "crates/jc_a/specs/Ones.antt": "abbrev pub is_one : N → Type 0\nis_one n = n ≡ one\n\nabbrev pub one : N\n"
-                                   "one = 1\n\nabbrev pub two : N\ntwo = 2\n",
+                                   "one = 1\n\nabbrev pub two : N\ntwo = 2\n\nabbrev pub three : N\n"
+                                   "three = 3\n",
     "crates/jc_a/proofs/Lemmas.antt": "pub lem : N\nlem = 1\n\npub free : N\nfree = 2\n",
     "crates/jc_b/src/lib.rt": "use jc_a::{Pair, far};\n\npub fn middle() -> Pair\n    ensures { true }\n{\n    far()\n"
                               "}\n",
     "crates/jc_c/src/lib.rt": HIGHEST,
     "crates/jc_c/proofs/top/Answers.antt": "use Rattle.jc_a.proofs.Lemmas.{lem}\n\nreturns : goal.returns\n"
                                            "returns c = lem\n",
-    "crates/jc_c/proofs/near/Answers.antt": "returns : goal.returns\nreturns c = refl\n",
+    "crates/jc_c/proofs/near/Answers.antt": "use Rattle.jc_a.specs.contracts.Count.{the_view}\n\n"
+                                            "returns : goal.returns\nreturns c = the_view\n",
     "crates/jc_c/src/more.rt": "use crate::Held;\n\nimpl Held {\n    fn hold(&self) -> u8 {\n        6\n    }\n}\n",
     "crates/jc_c/proofs/Held/hold/Answers.antt": "returns : goal.returns\nreturns c = refl\n",
     "crates/jc_c/proofs/+round/Answers.antt": "returns : goal.returns\nreturns c = refl\n",
@@ -418,7 +432,7 @@ REACHING = {
 A, C = "crates/jc_a/src/lib.rt", "crates/jc_c/src/lib.rt"
 DEFINITIONS, PROOFS = "crates/jc_a/specs/Ones.antt", "crates/jc_a/proofs/Lemmas.antt"
 EACH = ["both", "hold", "line", "near", "ping", "top"]
-OF_TOP = ["both", "line", "top"]
+OF_TOP, OF_NEAR = ["both", "line", "top"], ["both", "line", "near"]
 # What is changed, where, and which edits then want trying. One changes a line outside of functions: it stands on all of
 # its crate and on all statements below.
 REACHED = {
@@ -442,6 +456,12 @@ REACHED = {
     "a definition of a definition": (DEFINITIONS, "^one = 1", "one = 5", OF_TOP),
     "a definition that isn't reached": (DEFINITIONS, "^two = 2", "two = 5", ["line"]),
     "a definition more": (DEFINITIONS, r"\Z", "\nabbrev pub ten : N\nten = 10\n", ["line"]),
+    "a field behind a model, which one proof opens": (A, "number: u8", "number: u64", OF_NEAR),
+    "the view of a model": (A, "three . a.number", "a.number", OF_NEAR),
+    "a definition that a view has": (DEFINITIONS, "^three = 3", "three = 5", OF_NEAR),
+    "the value of a model": (A, "Value = . N .", "Value = { B }", ["both", "line", "near", "top"]),
+    "a field behind a model that becomes public": (A, "    number: u8", "    pub number: u8",
+                                                   ["both", "line", "near", "top"]),
     "a lemma": (PROOFS, "lem : N", "lem : B", OF_TOP),
     "a lemma's proof": (PROOFS, "^lem = 1", "lem = 5", []),
     "a lemma more": (PROOFS, r"\Z", "\npub more : N\nmore = 3\n", ["line"]),
@@ -454,11 +474,10 @@ REACHED = {
     "the proof of a method, beside its type": ("crates/jc_c/proofs/Held/hold/Answers.antt", "= refl", "= (refl)",
                                                ["hold", "line"]),
     "an attribute of a module": (C, r"\A", "#[tactic(auto)]\nmod more;\n", EACH),
-    "another function's body": (C, "^    2$", "    let one = 1;\n    2", ["both", "line", "near"]),
+    "another function's body": (C, "^    2$", "    let one = 1;\n    2", OF_NEAR),
     "an attribute of all functions": (C, r"\A", "#![tactic(auto)]\n", EACH),
     "the function's proof": ("crates/jc_c/proofs/top/Answers.antt", "= lem", "= (lem)", OF_TOP),
-    "another function's proof": ("crates/jc_c/proofs/near/Answers.antt", "= refl", "= (refl)",
-                                 ["both", "line", "near"]),
+    "another function's proof": ("crates/jc_c/proofs/near/Answers.antt", "= the_view", "= (the_view)", OF_NEAR),
     "a test below": ("crates/jc_a/src/tests.rt", None, SOURCE, []),
 }
 

@@ -38,8 +38,9 @@ def refused(number, name, **more):
                       separators=(",", ":"), ensure_ascii=False)
 
 
-def refused_text(number, name, offset, end, line, column):
-    return refused(number, name, offset=offset, end=end, line=line, column=column)
+def refused_text(number, name, offset, end, line, column, expected=None):
+    told = {} if expected is None else {"expected": expected.split()}
+    return refused(number, name, offset=offset, end=end, line=line, column=column, **told)
 
 
 def asked(text, requests_of_it=()):
@@ -309,23 +310,24 @@ WORKED = [
         ('view q doc.get("l").keys', '{"keys":["!k"]}'),
         ("view q doc", '{"doc":{"l":{"!conflict":{"list":[],"map":{"!!k":1.50}}}},"name":"q"}'),
     ]),
-    ("jsoncrdt 1 replica a", refused_text(8, "EndOfText", 20, 20, 1, 21), [
-        ("view", refused_text(8, "EndOfText", 20, 20, 1, 21)),
-        ("view b x", refused_text(8, "EndOfText", 20, 20, 1, 21)),
-        ("print", refused_text(8, "EndOfText", 20, 20, 1, 21)),
-        ("state b", refused_text(8, "EndOfText", 20, 20, 1, 21)),
-        ("break rule RECV-ONE", refused_text(8, "EndOfText", 20, 20, 1, 21)),
+    ("jsoncrdt 1 replica a", refused_text(8, "EndOfText", 20, 20, 1, 21, "{"), [
+        ("view", refused_text(8, "EndOfText", 20, 20, 1, 21, "{")),
+        ("view b x", refused_text(8, "EndOfText", 20, 20, 1, 21, "{")),
+        ("print", refused_text(8, "EndOfText", 20, 20, 1, 21, "{")),
+        ("state b", refused_text(8, "EndOfText", 20, 20, 1, 21, "{")),
+        ("break rule RECV-ONE", refused_text(8, "EndOfText", 20, 20, 1, 21, "{")),
         ("jump", BAD),
     ]),
 ]
 HEAD = 'jsoncrdt 1 replica a {'
-# Texts, and why each is refused: the number and the name, the offset, the end, the line and the column.
+# Texts, and why each is refused: the number and the name, the offset, the end, the line and the column, and what could
+# stand there.
 TEXTS = [
     ("", (14, "NoHeader", 0, 0, 1, 1)),
     ("jsoncrdt 3", (14, "NoHeader", 9, 10, 1, 10)),
     ("jsoncrdt 1", (16, "NoReplica", 10, 10, 1, 11)),
-    ("jsoncrdt 1\nreplica a {\n  doc = 1;\n}\n", (7, "Unexpected", 29, 30, 3, 7)),
-    (HEAD + 'doc := "é" xyz', (7, "Unexpected", 34, 37, 1, 34)),
+    ("jsoncrdt 1\nreplica a {\n  doc = 1;\n}\n", (7, "Unexpected", 29, 30, 3, 7, ". :=")),
+    (HEAD + 'doc := "é" xyz', (7, "Unexpected", 34, 37, 1, 34, "; }")),
     (HEAD + 'doc := "\\ud800"', (4, "LoneSurrogate", 30, 36, 1, 31)),
     (HEAD + "doc := 01.x;", (5, "BadNumber", 29, 33, 1, 30)),
     (HEAD + "# note", (1, "BadByte", 22, 23, 1, 23)),
@@ -334,11 +336,77 @@ TEXTS = [
     (HEAD + 'doc := "\\x"', (3, "BadEscape", 30, 31, 1, 31)),
     (HEAD + "n" * 256 + " := 1", (6, "TextTooLong", 22, 278, 1, 23)),
     (HEAD + "doc.idx(4294967296)", (9, "IndexTooLarge", 30, 40, 1, 31)),
-    (HEAD + "let x := 1", (7, "Unexpected", 28, 30, 1, 29)),
+    (HEAD + "let x := 1", (7, "Unexpected", 28, 30, 1, 29, "=")),
     (HEAD + "let true = doc}", (10, "ReservedName", 26, 30, 1, 27)),
     (HEAD + "} replica a {}", (15, "SameName", 32, 33, 1, 33)),
     (HEAD + "}\n\nschedule {\nbcd.exec}", (18, "UnknownReplica", 36, 39, 4, 1)),
 ]
+# Beginnings of texts, and what could stand behind each, by docs/LANGUAGE.md; the last word is a token that could not.
+VALUES = "true false null number string [ {"
+SELECTORS = "get idx keys values"
+EVENT = "exec send recv apply done"
+SECOND = "jsoncrdt 2 replica a {} "
+BEGINNINGS = [
+    ("jsoncrdt 1 replica", "name", "{"),
+    ("jsoncrdt 2 replica let_ {} replica", "name", '"b"'),
+    ("jsoncrdt 2 replica x {} replica", "name", "1"),
+    ("jsoncrdt 1 replica a", "{", "a"),
+    (HEAD, "yield let doc name }", "{"),
+    (HEAD + "yield", "; }", "yield"),
+    (HEAD + "yield;", "yield let doc name }", ";"),
+    (HEAD + "let", "name", "="),
+    (HEAD + "let x", "=", ":="),
+    (HEAD + "let x =", "doc name", "1"),
+    (HEAD + "let x = doc", ". ; }", "yield"),
+    (HEAD + "let x = y.", SELECTORS, "delete"),
+    (HEAD + "let x = y.get", "(", "."),
+    (HEAD + "let x = y.get(", "string", "k"),
+    (HEAD + 'let x = y.get("k"', ")", "}"),
+    (HEAD + "let x = y.keys", ". ; }", ":="),
+    (HEAD + "x", ". :=", "="),
+    (HEAD + "x.", SELECTORS + " insertAfter delete", "exec"),
+    (HEAD + "x.idx(", "digits", "1.0"),
+    (HEAD + "x.idx(1", ")", ","),
+    (HEAD + "x.idx(1)", ". :=", ";"),
+    (HEAD + "x.insertAfter(", VALUES, ")"),
+    (HEAD + "x.insertAfter(1", ")", "]"),
+    (HEAD + "x.delete", "; }", "("),
+    (HEAD + "x :=", VALUES, "doc"),
+    (HEAD + "x := {", "}", "]"),
+    (HEAD + "x := [", "]", "1"),
+    ("jsoncrdt 1 replica a {} schedule", "{", "a"),
+    ("jsoncrdt 1 replica a {} schedule {", "name }", ";"),
+    ("jsoncrdt 1 replica a {} schedule {a", ".", ":="),
+    ("jsoncrdt 1 replica a {} schedule {a.", EVENT, "take"),
+    (SECOND + "schedule {a.", "exec send recv take apply done", "keys"),
+    (SECOND + "given {a.take(", "name", "1"),
+    (SECOND + "given {a.take(a", ",", ")"),
+    (SECOND + "given {a.take(a,", "digits", "0.5"),
+    (SECOND + "given {a.apply(1", ",", ")"),
+    (SECOND + "given {a.apply(1,", "name", "1"),
+    (SECOND + "given {a.recv(a", ")", ","),
+    (SECOND + "given {a.exec", "; }", "a"),
+    # Limits are left aside.
+    (HEAD + "let x = y" + ".keys" * 256 + ".", SELECTORS, "delete"),
+    (HEAD + "yield;" * 65_536, "yield let doc name }", ";"),
+    ("jsoncrdt 1 " + "".join(f"replica a{n} {{}} " for n in range(64)) + "replica", "name", "{"),
+]
+# The same where the beginning is a scenario.
+WHOLE = [
+    ("jsoncrdt 1 replica a {}", "replica schedule", "given"),
+    ("jsoncrdt 2 replica a {}", "replica given schedule", "}"),
+    ("jsoncrdt 2 replica a {} given {}", "schedule", "replica"),
+    ("jsoncrdt 1 replica a {} schedule {}", "", "schedule"),
+]
+# What may be told, the spelling by which it is tried, and the one that tells that it stands for another.
+TRIED = [*((word, word, "get") for word in ("yield", "let", "doc")),
+         *((word, word, "let") for word in ("get", "idx", "keys", "values", "insertAfter", "delete", "true", "false",
+                                            "null")),
+         *((word, word, "x") for word in ("replica", "given", "schedule", "exec", "send", "recv", "take", "apply",
+                                          "done")),
+         ("name", "x", None), ("digits", "100", "0.5"), ("number", "0.5", None), ("string", '""', None),
+         *((sign, sign, None) for sign in (".", ":=", "=", "(", ")", "[", "]", "{", ";", ",", "}"))]
+OPEN = (8, 11, 12, 15, 17, 18, 19)
 # What is no request, whatever there is.
 NO_REQUESTS = ["", " \t", "jump", "scenario", "scenario x", "scenario 01", "scenario 1 2", "scenario -1", "brief",
                "brief a b", "event 3", "event --effects --trace", "event --trace --trace", "event --at",
@@ -372,6 +440,51 @@ def refuses_texts(_):
                           (b"\n" * 9_000_000, (6, "TextTooLong", 8_388_608, 8_388_609, 8_388_609, 1))):
         got = served(asked(content, [b"jump"]))
         expect(got == [refused_text(*want), BAD], f"{got}")
+
+
+def expects_what_could_stand(_):
+    """What could stand behind a beginning, where the text ends there or what comes next doesn't fit."""
+    for beginning, expected, misfit in [*BEGINNINGS, *WHOLE]:
+        at = len(beginning)
+        wants = [(f"{beginning} {misfit}", (7, "Unexpected", at + 1, at + 1 + len(misfit), 1, at + 2, expected))]
+        if (beginning, expected, misfit) in BEGINNINGS:
+            wants.append((beginning, (8, "EndOfText", at, at, 1, at + 1, expected)))
+        for text, want in wants:
+            [got] = served(asked(text.encode()))
+            expect(got == refused_text(*want), f"{text[-100:]}: {got}\nand not\n{refused_text(*want)}")
+    for free, expected in ((0, ""), (1, ""), (2, "name }"), (3, "name }"), (4, "let doc name }"),
+                           (6, "yield let doc name }")):
+        text = HEAD.encode() + b" " * (8_388_608 - len(HEAD) - free)
+        [got] = served(asked(text))
+        expect(json.loads(got)["refused"]["expected"] == expected.split(), f"{free} bytes are free: {got}")
+
+
+def goes_on(text, at, spelling):
+    """Whether the text up to an offset is right with a spelling behind it."""
+    fault = read(text[:at] + b" " + spelling.encode())[1]
+    return not fault or fault[1] in OPEN
+
+
+def expects_what_goes_on(_):
+    """What is told is what goes on by trying, in broken texts."""
+    chance, count = random.Random(SEED), 0
+    sources = [text.encode() for text in (GIVEN, BELOW, PARTS)]
+    while count < 150:
+        text = chance.choice(sources)
+        parts = re.findall(rb'"[^"]*"|[\w.]+|:=|[^\w\s]', text)
+        at = chance.randrange(len(parts))
+        parts[at:at + chance.randrange(2)] = chance.choices(parts, k=chance.randrange(3))
+        text = b" ".join(parts[:chance.choice((len(parts), at + 3))])
+        [got] = served(asked(text))
+        refusal = json.loads(got).get("refused", {})
+        if refusal.get("number") not in (7, 8):
+            expect("expected" not in refusal, got)
+            continue
+        count += 1
+        offset = refusal["offset"]
+        want = [told for told, tried, other in TRIED
+                if goes_on(text, offset, tried) and not (other and goes_on(text, offset, other))]
+        expect(refusal["expected"] == want, f"{text}: {got}\nand not\n{want}")
 
 
 def refuses_lines(_):
@@ -768,8 +881,8 @@ ENDS = [
     (b"scenario 10\njsoncrdt 1 replica a {}\nwhere\n", [refused_text(16, "NoReplica", 10, 10, 1, 11), BAD,
                                                        refused_text(16, "NoReplica", 10, 10, 1, 11)], 0, ""),
     # One that is shorter takes the next request in.
-    (b"scenario 30\njsoncrdt 1 replica a {}\nwhere\nwhere\n", [refused_text(7, "Unexpected", 24, 29, 2, 1),
-                                                               refused_text(7, "Unexpected", 24, 29, 2, 1)], 0, ""),
+    (b"scenario 30\njsoncrdt 1 replica a {}\nwhere\nwhere\n",
+     [refused_text(7, "Unexpected", 24, 29, 2, 1, "replica schedule")] * 2, 0, ""),
     (b"\0\0\n\xff\n", [BAD, BAD], 0, ""),
 ]
 
@@ -896,6 +1009,8 @@ def serving():
     for row in WORKED:
         yield worked_case(*row)
     yield "serve: texts that are refused", refuses_texts
+    yield "serve: what could stand where a text is refused, by hand", expects_what_could_stand
+    yield "serve: what could stand where a text is refused, by trying", expects_what_goes_on
     yield "serve: lines that are no requests", refuses_lines
     yield "serve: ends of lines", is_as_in_sessions
     for path in SCENARIOS:

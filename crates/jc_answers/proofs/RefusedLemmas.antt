@@ -9,7 +9,7 @@ use Rattle.jc_answers.specs.declared.refusals.Extent.{Extent}
 use Rattle.jc_answers.specs.declared.refusals.Extent.TheVariants.{Token, Escape, Character, Byte}
 use Rattle.jc_answers.specs.JsonTexts.{NamedText, number_member, string_member}
 use Rattle.jc_answers.specs.Parts.{member_of, members_of}
-use Rattle.jc_answers.specs.Refusals.{refused_object, refusal_members, line_behind, column_behind, extent_of, EndsWith, EndsAt, placed_members, IsRefusedText}
+use Rattle.jc_answers.specs.Refusals.{refused_object, refusal_members, line_behind, column_behind, extent_of, EndsWith, EndsAt, placed_members, IsRefusedTextWith, IsRefusedText}
 
 -- ---- members
 
@@ -19,16 +19,16 @@ one_member m ns is = ap (λ xs. xs ++ []) is
 pub two_members : (m n : Member) (refusal : Refusal) → member_of m ≡ string_member (codes "name") (refusal_name refusal) → member_of n ≡ number_member (codes "number") (refusal_number refusal) → members_of (m ∷ n ∷ []) ≡ refusal_members refusal
 two_members m n refusal name number = λ i. name i ++ (number i ++ [])
 
-pub six_members : (a b c d e f : Member) (text : List ℕ) (refusal : Refusal) (at stop : ℕ)
+pub seven_members : (a b m c d e f : Member) (text : List ℕ) (refusal : Refusal) (at stop : ℕ)
     → member_of a ≡ number_member (codes "column") (column_behind (take at text))
     → member_of b ≡ number_member (codes "end") stop
     → member_of c ≡ number_member (codes "line") (line_behind (take at text))
     → member_of d ≡ string_member (codes "name") (refusal_name refusal)
     → member_of e ≡ number_member (codes "number") (refusal_number refusal)
     → member_of f ≡ number_member (codes "offset") at
-    → members_of (a ∷ b ∷ c ∷ d ∷ e ∷ f ∷ []) ≡ placed_members text refusal at stop
-six_members a b c d e f text refusal at stop column end line name number offset =
-    λ i. column i ++ (end i ++ (line i ++ (name i ++ (number i ++ (offset i ++ [])))))
+    → members_of (a ∷ b ∷ m ∷ c ∷ d ∷ e ∷ f ∷ []) ≡ placed_members text refusal at stop (member_of m)
+seven_members a b m c d e f text refusal at stop column end line name number offset =
+    λ i. column i ++ (end i ++ (member_of m ++ (line i ++ (name i ++ (number i ++ (offset i ++ []))))))
 
 -- ---- ends
 
@@ -55,9 +55,13 @@ with_extent extent other text at stop is h = subst (λ (e : Extent). EndsWith e 
 
 -- ---- answers
 
-pub is_refused : (text answer : List ℕ) (refusal : Refusal) (at stop : ℕ) (ms : List Member) → EndsAt refusal text at stop → answer ≡ refused_object (members_of ms) → members_of ms ≡ placed_members text refusal at stop → IsRefusedText text refusal at answer
-is_refused text answer refusal at stop ms ends is members = record { stop = stop; ends = ends; is = is ∙ ap refused_object members }
+pub is_refused : (more : List NamedText) (text answer : List ℕ) (refusal : Refusal) (at stop : ℕ) (ms : List Member) → EndsAt refusal text at stop → answer ≡ refused_object (members_of ms) → members_of ms ≡ placed_members text refusal at stop more → IsRefusedTextWith more text refusal at answer
+is_refused more text answer refusal at stop ms ends is members = record { stop = stop; ends = ends; is = is ∙ ap refused_object members }
 
-pub one_refused : (text : List ℕ) (refusal : Refusal) (at : ℕ) (answer other : List ℕ) → IsRefusedText text refusal at answer → IsRefusedText text refusal at other → other ≡ answer
-one_refused text refusal at answer other a b =
-    b.is ∙ ap (λ (n : ℕ). refused_object (placed_members text refusal at n)) (one_end refusal text at b.stop a.stop b.ends a.ends) ∙ sym a.is
+pub one_refused : (more : List NamedText) (text : List ℕ) (refusal : Refusal) (at : ℕ) (answer other : List ℕ) → IsRefusedTextWith more text refusal at answer → IsRefusedTextWith more text refusal at other → other ≡ answer
+one_refused more text refusal at answer other a b =
+    b.is ∙ ap (λ (n : ℕ). refused_object (placed_members text refusal at n more)) (one_end refusal text at b.stop a.stop b.ends a.ends) ∙ sym a.is
+
+-- a member that isn't there is none more
+pub with_none_more : (more : List NamedText) (text : List ℕ) (refusal : Refusal) (at : ℕ) (answer : List ℕ) → more ≡ [] → IsRefusedText text refusal at answer → IsRefusedTextWith more text refusal at answer
+with_none_more more text refusal at answer none h = subst (λ (ms : List NamedText). IsRefusedTextWith ms text refusal at answer) (sym none) h

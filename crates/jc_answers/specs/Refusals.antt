@@ -1,5 +1,5 @@
 -- Refusals as answers: their names and numbers, and of a text the place in it.
-use Rattle.std.specs.Prelude.{◌≡◌, ℕ, ◌+◌, ◌<◌, ◌≤◌, ◌⊎◌, ◌==◌, nat_le, nat_lt, Bool, not, ◌&&◌, if◌then◌else◌, List, ◌++◌, length, drop, filter, reverse, take, take_while, codes}
+use Rattle.std.specs.Prelude.{◌≡◌, ℕ, ◌+◌, ◌<◌, ◌≤◌, ◌⊎◌, ◌==◌, nat_le, nat_lt, Bool, not, ◌&&◌, if◌then◌else◌, List, [], ◌++◌, length, drop, filter, reverse, take, take_while, codes}
 use Rattle.std.specs.List.{prefix_len}
 use Rattle.jc_rules.specs.declared.limits.TheConstants.{MAX_TEXT}
 use Rattle.jc_rules.specs.declared.refusal.Refusal.{Refusal}
@@ -87,15 +87,20 @@ abbrev pub EndsAt : Refusal → List ℕ → ℕ → ℕ → Type 0
 EndsAt refusal text at stop =
     ((length text ≤ at) × (stop ≡ at)) ⊎ ((at < length text) × EndsWith (extent_of refusal at) text at stop)
 
--- the members of a refusal at an offset of a text
-abbrev pub placed_members : List ℕ → Refusal → ℕ → ℕ → List NamedText
-placed_members text refusal at stop =
+-- the members of a refusal at an offset of a text, with more behind the end
+abbrev pub placed_members : List ℕ → Refusal → ℕ → ℕ → List NamedText → List NamedText
+placed_members text refusal at stop more =
     number_member (codes "column") (column_behind (take at text)) ++ number_member (codes "end") stop
-    ++ number_member (codes "line") (line_behind (take at text)) ++ refusal_members refusal
-    ++ number_member (codes "offset") at
+    ++ (more ++ (number_member (codes "line") (line_behind (take at text)) ++ refusal_members refusal
+    ++ number_member (codes "offset") at))
 
--- The answer that refuses a text at an offset.
-pub record IsRefusedText (text : List ℕ) (refusal : Refusal) (at : ℕ) (answer : List ℕ) : Type 0 where
+-- The answer that refuses a text at an offset, with more members behind the end.
+pub record IsRefusedTextWith (more : List NamedText) (text : List ℕ) (refusal : Refusal) (at : ℕ) (answer : List ℕ)
+    : Type 0 where
   pub stop : ℕ
   pub ends : EndsAt refusal text at stop
-  pub is : answer ≡ refused_object (placed_members text refusal at stop)
+  pub is : answer ≡ refused_object (placed_members text refusal at stop more)
+
+-- The answer that refuses a text at an offset.
+abbrev pub IsRefusedText : List ℕ → Refusal → ℕ → List ℕ → Type 0
+IsRefusedText text refusal at answer = IsRefusedTextWith [] text refusal at answer

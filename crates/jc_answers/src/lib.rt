@@ -7,4 +7,4 @@ mod refusals;
 
 pub use arrays::ArrayText;
 pub use objects::{Member, Value, object_text, quoted, unended};
-pub use refusals::{refused, refused_text};
+pub use refusals::{refused, refused_text, refused_text_with};

@@ -3,9 +3,9 @@
 ghost use Rattle.std.specs.Prelude.{◌≡◌, ◌<◌, ◌≤◌, ◌+◌, ◌^◌, ℕ, List, IfOk, length};
 ghost use Rattle.std.specs.List.{prefix_len};
 ghost use Rattle.jc_answers.specs.declared.refusals.Extent.TheVariants.{Token};
-ghost use Rattle.jc_answers.specs.Parts.{members_of, next_line, next_column, IsBehind};
+ghost use Rattle.jc_answers.specs.Parts.{member_of, members_of, next_line, next_column, IsBehind};
 ghost use Rattle.jc_answers.specs.Refusals as spec;
-ghost use Rattle.jc_answers.specs.Refusals.{refused_object, refusal_answer, extent_of, after_character, EndsWith, EndsAt, IsRefusedText};
+ghost use Rattle.jc_answers.specs.Refusals.{refused_object, refusal_answer, extent_of, after_character, EndsWith, EndsAt, IsRefusedTextWith, IsRefusedText};
 
 use crate::objects::{Member, object_text};
 use jc_rules::Refusal;
@@ -181,8 +181,36 @@ pub fn refused(alloc: Global, refusal: Refusal) -> Result<Vec<u8>, AllocError>
     )
 }
 
-/// The answer that refuses a text at an offset. The text need not be UTF-8. Of one that is too long any bytes from the
-/// first 8,388,609 on may be left out: the answer stays the same. Refused for want of memory alone.
+/// The answer that refuses a text at an offset, with one member more behind the end. The text need not be UTF-8. Of one
+/// that is too long any bytes from the first 8,388,609 on may be left out: the answer stays the same. Refused for want of
+/// memory alone.
+pub fn refused_text_with(
+    alloc: Global,
+    text: &[u8],
+    refusal: Refusal,
+    place: usize,
+    more: Member<'_>,
+) -> Result<Vec<u8>, AllocError>
+    ensures is { IfOk result (λ answer. IsRefusedTextWith (member_of more.entry) text.now refusal place answer.items) }
+    ensures only { IfOk result (λ answer. (other : List ℕ)
+        → IsRefusedTextWith (member_of more.entry) text.now refusal place other
+        → other ≡ answer.items) }
+{
+    let position = position_behind(&text[..place.min(text.len())]);
+    let end = end_of(text, refusal, place);
+    let members = [
+        Member::number("column", position.column),
+        Member::number("end", end as u64),
+        more,
+        Member::number("line", position.line),
+        Member::string("name", refusal.name()),
+        Member::number("number", refusal.number() as u64),
+        Member::number("offset", place as u64),
+    ];
+    refused_with(alloc, &members)
+}
+
+/// The answer that refuses a text at an offset. Refused for want of memory alone.
 pub fn refused_text(
     alloc: Global,
     text: &[u8],
@@ -194,15 +222,5 @@ pub fn refused_text(
         → IsRefusedText text.now refusal place other
         → other ≡ answer.items) }
 {
-    let position = position_behind(&text[..place.min(text.len())]);
-    let end = end_of(text, refusal, place);
-    let members = [
-        Member::number("column", position.column),
-        Member::number("end", end as u64),
-        Member::number("line", position.line),
-        Member::string("name", refusal.name()),
-        Member::number("number", refusal.number() as u64),
-        Member::number("offset", place as u64),
-    ];
-    refused_with(alloc, &members)
+    refused_text_with(alloc, text, refusal, place, Member::absent())
 }

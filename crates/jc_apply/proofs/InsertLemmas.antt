@@ -1,5 +1,5 @@
 -- About AppliesAlong: going past elements with greater identifiers, and linking a new one.
-use Rattle.std.proofs.Common.{◌≡◌, ◌≢◌, ◌<◌, ◌≤◌, List, [], ◌∷◌, length, Some, None, refl, ◌∙◌, ap, subst, arith}
+use Rattle.std.proofs.Common.{◌≡◌, ◌≢◌, ◌<◌, ◌≤◌, ◌/◌, ℕ, zero, suc, List, [], ◌∷◌, length, Some, None, refl, sym, ◌∙◌, ap, subst, arith}
 use Rattle.std.specs.declared.cmp.Ordering.{Ordering}
 use Rattle.std.specs.declared.cmp.Ordering.TheVariants.{Less, Equal, Greater}
 use Rattle.jc_rules.specs.declared.id.Id.{Id}
@@ -21,13 +21,19 @@ use Rattle.jc_rules.specs.Derivation.{Operate, ToContext}
 use Rattle.jc_rules.specs.Derives.{Derives}
 use Rattle.jc_rules.specs.WellFormed.{IsChained, IsChainedList}
 use Rattle.jc_rules.specs.Trace.{Rows, IsLonger, pushed, one_deeper, at_depth}
+use Rattle.jc_rules.specs.Runs.{deeper, opened}
+use Rattle.jc_rules.proofs.RunsLemmas.{opened_rows}
 use Rattle.jc_rules.specs.Table.{moved, IsBefore}
-use Rattle.jc_rules.proofs.OrderLemmas.{exact_ids}
+use Rattle.jc_rules.proofs.OrderLemmas.{exact_ids, ids_total}
 use Rattle.jc_rules.proofs.DerivesLemmas.{one_premise, same_rows, longer_still}
 use Rattle.jc_tree.specs.Tree.{Tree, HasPlace, here, IsChanged}
 use Rattle.jc_tree.proofs.ChainedLemmas.{chained_linked}
 use Rattle.jc_tree.proofs.ChainedLeadsLemmas.{Leads as LeadsOn, leads_from, leads_next, leads_on, steps}
 use Rattle.jc_tree.proofs.PlacesLemmas.{then_here, then_place, then_now}
+use Rattle.std.proofs.lemmas.Option.{same_Some}
+use Rattle.jc_tree.specs.Blocks.{IsAtMost}
+use Rattle.jc_tree.specs.Stretches.{LeadsOver}
+use Rattle.jc_apply.specs.Passing.{LeadsOverGreater, PassesOn}
 use Rattle.jc_apply.specs.Fits.{IsUnlinked}
 use Rattle.jc_apply.specs.AppliesAlong.{LeadsTo, LinksNone, LinksOnly, Passes}
 use Rattle.jc_apply.proofs.UnlinkedLemmas.{unlinked_here, unlinked_now, unlinked-linked, no_next}
@@ -72,6 +78,55 @@ next_pass o v c k j n x i t u p is w ne less je f pe =
       },
       on.1,
     )
+
+-- past as many as are greater
+
+chain_over : (count : ℕ) (c : Context) (i : Id) (k j : Key) → LeadsOn c (Some k) → LeadsOverGreater c i k count j → LeadsOn c (Some j)
+chain_over zero c i k j w h = subst (λ (y : Key). LeadsOn c (Some y)) h w
+chain_over (suc n) c i k j w h = chain_over n c i (Elem h.0) j (leads_on c k (To h.0) w h.1).0 h.3
+
+-- the last one is linked
+pub linked_over : (o : Op) (c : Context) (k j : Key) (n : Next) (t u v : Rows) → Passing o c k n t u → PassesOn c o.id k j u v → next j c ≢ None
+linked_over o c k j n t u v w p = leads_next c j (chain_over p.count c o.id k j w.chain p.leads)
+
+past_all : (count : ℕ) (o : Op) (v : Value) (c : Context) (k j : Key) (n x : Next) (t u : Rows) → 0 < count → o.mutation ≡ Insert v → Passing o c k n t u → LeadsOverGreater c o.id k count j → next j c ≡ Some x → Passing o c j x t (opened count R.Insert2 u) × (steps (Some j) (length (links c)) c < steps (Some k) (length (links c)) c)
+past_all zero o v c k j n x t u some is w h f = absurd (omega (arith, some))
+past_all (suc zero) o v c k j n x t u some is w h f = next_pass o v c k j n x h.0 t u (one_deeper (pushed u R.Insert2)) is w (same_Some n (To h.0) (sym w.follows ∙ h.1)) h.2 (sym h.3) f refl
+past_all (suc (suc m)) o v c k j n x t u some is w h f =
+    let on = next_pass o v c k (Elem h.0) n (To h.3.0) h.0 t u (one_deeper (pushed u R.Insert2)) is w (same_Some n (To h.0) (sym w.follows ∙ h.1)) h.2 refl h.3.1 refl in
+    let last = past_all (suc m) o v c (Elem h.0) j (To h.3.0) x t (one_deeper (pushed u R.Insert2)) (omega arith) is on.0 h.3 f in
+    (last.0, omega (arith, on.1, last.1))
+
+pub passed_on : (o : Op) (v : Value) (c : Context) (k j : Key) (n x : Next) (t u z : Rows) → o.mutation ≡ Insert v → Passing o c k n t u → PassesOn c o.id k j u z → next j c ≡ Some x → Passing o c j x t z × (steps (Some j) (length (links c)) c < steps (Some k) (length (links c)) c)
+passed_on o v c k j n x t u z is w p f =
+    let on = past_all p.count o v c k j n x t u p.some is w p.leads f in
+    (subst (λ (y : Rows). Passing o c j x t y) (sym p.rows) on.0, on.1)
+
+-- what is told of elements whose identifiers are not less than a greater one
+below_at_most : (i l e : Id) → id_cmp i l ≡ Less → IsAtMost l e → id_cmp i e ≡ Less
+below_at_most i l e h a = go (id_cmp l e) refl
+  where
+    go : (r : Ordering) → id_cmp l e ≡ r → id_cmp i e ≡ Less
+    go Less p = ids_total.trans i l e h p
+    go Equal p = ap (id_cmp i) (sym (exact_ids l e p)) ∙ h
+    go Greater p = absurd (a p)
+
+pub greater_over : (count : ℕ) (c : Context) (i : Id) (k j : Key) (bits : ℕ) (least : Id) → id_cmp i least ≡ Less → LeadsOver c k count bits least j → LeadsOverGreater c i k count j
+greater_over zero c i k j bits least less h = h
+greater_over (suc n) c i k j bits least less h = (h.0, h.1, below_at_most i least h.0 less h.3, greater_over n c i (Elem h.0) j (bits / 2) least less h.4)
+
+-- past one
+pub passes_one : (c : Context) (i : Id) (k j : Key) (d : Id) (t u : Rows) → next k c ≡ Some (To d) → id_cmp i d ≡ Less → j ≡ Elem d → u ≡ one_deeper (pushed t R.Insert2) → PassesOn c i k j t u
+passes_one c i k j d t u e less je ue = record {
+  count = 1;
+  some = omega arith;
+  leads = (d, e, less, sym je);
+  rows = ue;
+}
+
+-- the trace grows
+pub longer_over : (n : ℕ) (t u : Rows) → u ≡ opened n R.Insert2 t → IsLonger t u
+longer_over n t u e = rw e (record { added = deeper R.Insert2 t.depth n; is = opened_rows n R.Insert2 t })
 
 -- the place of a key that is linked is before what isn't
 is_before : (c : Context) (k : Key) (n : Next) (i : Id) → LeadsOn c (Some k) → next k c ≡ Some n → next (Elem i) c ≡ None → ((j : Id) → n ≡ To j → id_cmp i j ≢ Less) → IsBefore n i

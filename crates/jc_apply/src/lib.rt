@@ -6,6 +6,7 @@ mod assigning;
 mod entering;
 mod fitting;
 mod inserting;
+mod passing;
 
 pub use apply::{ApplyFault, apply_op};
 pub use fitting::fits;

@@ -1,6 +1,7 @@
 //! The rules of expressions, over any store of a document's tree: replicas evaluate the commands of scripts by them.
 #![tactic(auto)]
 
+mod along;
 mod bound;
 mod evaluating;
 mod select;

@@ -24,9 +24,10 @@ ghost use Rattle.jc_cursor.specs.Bounds.{bound_of};
 ghost use Rattle.jc_cursor.specs.Evaluates.{Selects, RefusedAfter, IsSelection, eval_cause_of};
 ghost use Rattle.jc_cursor.specs.WayDown.{IsGrown};
 
+use crate::along::element_at;
 use crate::bound::Bound;
 use crate::evaluating::EvalFault;
-use crate::walk::{element_at, go_down, is_present};
+use crate::walk::{go_down, is_present};
 use jc_rules::limits::MAX_PATH;
 use jc_rules::{Cursor, Key, Names, Pairs, Path, Rule, Tagged, Text, Trace};
 use jc_syntax::Expr;

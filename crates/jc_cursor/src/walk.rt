@@ -1,25 +1,17 @@
-//! Walks in a document for the selectors: down a path, and along a list. The trace is left at the depth
-//! of the last rule's premises.
+//! The way down a path for the selectors, and whether a key is present. The trace is left at the depth of the
+//! last rule's premises.
 
-ghost use Rattle.std.specs.Prelude.{◌≡◌, ◌≢◌, None, Some, [], IsTrue, IsFalse, IfOk, IfErr, IfSome, OnOk};
+ghost use Rattle.std.specs.Prelude.{None, Some, IsTrue, IsFalse, IfOk, IfErr, IfSome, OnOk};
 ghost use Rattle.std.specs.List.{AllByRecursion};
-ghost use Rattle.jc_rules.specs.declared.key.Key.TheVariants.{Head};
-ghost use Rattle.jc_rules.specs.declared.id.Id.{Id as AnyId};
-ghost use Rattle.jc_rules.specs.declared.key.Next.TheVariants.{Elem as To};
 ghost use Rattle.jc_rules.specs.Context.{presence as presence_set};
-ghost use Rattle.jc_rules.specs.Derivation.{SelectIndex, ToCursor};
-ghost use Rattle.jc_rules.specs.Derives.{Derives};
-ghost use Rattle.jc_rules.specs.Refused.{Refused};
-ghost use Rattle.jc_rules.specs.WellFormed.{IsChained};
-ghost use Rattle.jc_rules.specs.Table.{cursor, IsEmptyIds};
-ghost use Rattle.jc_rules.specs.Trace.{at_depth};
+ghost use Rattle.jc_rules.specs.Table.{IsEmptyIds};
 ghost use Rattle.jc_tree.specs.Tree.{HasPlace, here};
 ghost use Rattle.jc_rules.specs.Paths.{HasContext};
 ghost use Rattle.jc_cursor.specs.WayDown.{IsGrown, LeadsDown, RefusesDown, RefusedOnWay};
 ghost use Rattle.jc_cursor.specs.Evaluates.{eval_cause_of};
 
 use crate::evaluating::EvalFault;
-use jc_rules::{Id, Key, Next, Rule, Tagged, Trace};
+use jc_rules::{Key, Rule, Tagged, Trace};
 use jc_tree::{Hint, Place, TreeStore};
 
 /// Goes down the path, by the rule for each key. Returns the store's name for the place at its end.
@@ -67,59 +59,4 @@ pub fn is_present<S: TreeStore>(
         Some(ids) => !ids.is_empty(),
         None => false,
     }
-}
-
-/// The element that follows, if one does.
-fn element_of(next: Option<Next>) -> Option<Id>
-    ensures some { (i : AnyId) → result ≡ Some i → next ≡ Some (To i) }
-    ensures none { result ≡ None → (i : AnyId) → next ≢ Some (To i) }
-{
-    match next {
-        Some(Next::Elem(id)) => Some(id),
-        _ => None,
-    }
-}
-
-/// The key of the list at the place that is `index` present elements behind its head; `place` is the
-/// store's name for the place.
-pub fn element_at<S: TreeStore>(
-    store: &S,
-    place: Place,
-    at: &[Tagged],
-    index: u32,
-    trace: &mut Trace,
-) -> Result<Key, EvalFault>
-    requires there { HasPlace at.now (S.tree store.now) }
-    requires named { S.names store.now place at.now }
-    requires chained { IsChained (S.tree store.now).now }
-    ensures ok { IfOk result (λ k.
-        Derives (SelectIndex (here at.now (S.tree store.now)) (cursor [] Head) index) (ToCursor (cursor [] k))
-        trace.old (at_depth trace.old.depth trace.new)) }
-    ensures refused { IfErr result (λ f.
-        IfSome (eval_cause_of f) (λ why.
-        Refused (SelectIndex (here at.now (S.tree store.now)) (cursor [] Head) index) why)) }
-    ensures grown { IsGrown trace.old trace.new }
-{
-    let mut key = Key::Head;
-    if index == 0 {
-        trace.push(Rule::Idx5)?;
-        return Ok(key);
-    }
-    let mut left = index;
-    let mut step = store.step_by(place, at, &key, Hint { number: 0 });
-    while left > 0 {
-        let Some(id) = element_of(step.next) else {
-            return Err(EvalFault::PastEnd);
-        };
-        key = Key::Elem(id);
-        step = store.step_by(place, at, &key, step.hint);
-        if step.present {
-            trace.open(Rule::Idx3)?;
-            left -= 1;
-        } else {
-            trace.open(Rule::Idx4)?;
-        }
-    }
-    trace.push(Rule::Idx5)?;
-    Ok(key)
 }

@@ -1,9 +1,11 @@
 -- About specs/DebuggerState and specs/Moves: which breakpoints name a position.
-use Rattle.std.proofs.Common.{◌≡◌, ◌↔◌, ℕ, ◌+◌, ◌<◌, ◌≤◌, List, length, take, slice_get, slice_set, nat_eq, Option, Some, None, Result, Ok, Err, OnErr, Bool, true, false, IsTrue, ap, sym, subst, ◌∙◌, arith, rules}
+use Rattle.std.proofs.Common.{◌≡◌, ◌↔◌, ◌⊎◌, inl, inr, ℕ, zero, suc, ◌+◌, ◌<◌, ◌≤◌, List, [], ◌∷◌, ◌++◌, length, take, slice_get, slice_set, nat_eq, Option, Some, None, Result, Ok, Err, OnErr, Bool, true, false, IsTrue, refl, ap, sym, subst, ◌∙◌, arith, rules}
 use Rattle.std.proofs.lemmas.Option.{slice_get_within, same_Some}
 use Rattle.jc_rules.specs.declared.operation.Event.{Event}
 use Rattle.jc_rules.specs.declared.refusal.Refusal.TheVariants as F
 use Rattle.jc_rules.specs.declared.rule.Rule.{Rule}
+use Rattle.jc_rules.specs.declared.run.Run.{Run}
+use Rattle.jc_rules.specs.Runs.{deeper, run_rows, rows_of_all}
 use Rattle.jc_rules.specs.Step.{Network, StepIn, replica_of}
 use Rattle.jc_rules.proofs.VersionLemmas.{one_step_in, one_after_in}
 use Rattle.jc_debug.specs.declared.breaks.Break.{Break}
@@ -38,12 +40,49 @@ rule_named d t rule is = (
 pub no_rule_at_start : (d : Seen) (rule : Rule) → length d.traces ≡ 0 → Names (start_of d) d.schedule (Kind.Rule rule) (length d.traces) → ⊥
 no_rule_at_start d rule z x = let q = x.3 in absurd (omega (arith, q, z))
 
--- the rows before a place don't have the rule
-pub no_such : (rows : List (Rule × ℕ)) (k : ℕ) (row : Rule × ℕ) (rule : Rule) → slice_get rows k ≡ Some row → (row.0 ≡ rule → ⊥) → (depth : ℕ) → slice_get rows k ≡ Some (rule, depth) → ⊥
-no_such rows k row rule at other depth e = other (ap (λ (r : Rule × ℕ). r.0) (same_Some row (rule, depth) (sym at ∙ e)))
+-- a row of the first or of the others
+has_front : (xs ys : List (Rule × ℕ)) (rule : Rule) → HasRule xs rule → HasRule (xs ++ ys) rule
+has_front [] ys rule (k, depth, e) = cc
+has_front (x ∷ xs) ys rule (zero, depth, e) = (zero, depth, e)
+has_front (x ∷ xs) ys rule (suc k, depth, e) = let h = has_front xs ys rule (k, depth, e) in (suc h.0, h.1, h.2)
 
-pub has_none : (rows : List (Rule × ℕ)) (rule : Rule) (m : ℕ) → length rows ≤ m → ((k depth : ℕ) → k < m → slice_get rows k ≡ Some (rule, depth) → ⊥) → HasRule rows rule → ⊥
-has_none rows rule m le none (k, depth, e) = none k depth (let w = slice_get_within rows k (rule, depth) e in omega (arith, w, le)) e
+has_back : (xs ys : List (Rule × ℕ)) (rule : Rule) → HasRule ys rule → HasRule (xs ++ ys) rule
+has_back [] ys rule h = h
+has_back (x ∷ xs) ys rule h = let r = has_back xs ys rule h in (suc r.0, r.1, r.2)
+
+has_either : (xs ys : List (Rule × ℕ)) (rule : Rule) → HasRule (xs ++ ys) rule → HasRule xs rule ⊎ HasRule ys rule
+has_either [] ys rule h = inr h
+has_either (x ∷ xs) ys rule (zero, depth, e) = inl (zero, depth, e)
+has_either (x ∷ xs) ys rule (suc k, depth, e) =
+    elim (has_either xs ys rule (k, depth, e)) [
+      | inl h ↦ inl (suc h.0, h.1, h.2)
+      | inr h ↦ inr h
+    ]
+
+-- a run with rows has its own rule alone
+own_first : (r : Rule) (d n : ℕ) (rule : Rule) → r ≡ rule → 0 < n → HasRule (deeper r d n) rule
+own_first r d zero rule e some = absurd (omega (arith, some))
+own_first r d (suc n) rule e some = (0, d, ap (λ q. Some (q, d)) e)
+
+own_alone : (r : Rule) (d n : ℕ) (rule : Rule) → HasRule (deeper r d n) rule → (r ≡ rule) × (0 < n)
+own_alone r d zero rule (k, depth, e) = cc
+own_alone r d (suc n) rule (zero, depth, e) = (ap (λ (row : Rule × ℕ). row.0) (same_Some (r, d) (rule, depth) e), omega arith)
+own_alone r d (suc n) rule (suc k, depth, e) = ((own_alone r (d + 1) n rule (k, depth, e)).0, omega arith)
+
+pub runs_have : (runs : List Run) (i : ℕ) (run : Run) (rule : Rule) → slice_get runs i ≡ Some run → run.rule ≡ rule → 0 < run.count → HasRule (rows_of_all runs) rule
+runs_have [] i run rule at e some = cc
+runs_have (r ∷ runs) zero run rule at e some =
+    let same : r ≡ run = same_Some r run at in
+    has_front (run_rows r) (rows_of_all runs) rule (subst (λ (x : Run). HasRule (run_rows x) rule) (sym same) (own_first run.rule run.depth run.count rule e some))
+runs_have (r ∷ runs) (suc i) run rule at e some = has_back (run_rows r) (rows_of_all runs) rule (runs_have runs i run rule at e some)
+
+pub runs_have_none : (runs : List Run) (rule : Rule) → ((k : ℕ) (run : Run) → slice_get runs k ≡ Some run → run.rule ≡ rule → 0 < run.count → ⊥) → HasRule (rows_of_all runs) rule → ⊥
+runs_have_none [] rule none (k, depth, e) = cc
+runs_have_none (r ∷ runs) rule none h =
+    elim (has_either (run_rows r) (rows_of_all runs) rule h) [
+      | inl own ↦ let o = own_alone r.rule r.depth r.count rule own in none 0 r refl o.0 o.1
+      | inr more ↦ runs_have_none runs rule (λ k run at. none (suc k) run at) more
+    ]
 
 -- ---- the replica of an event
 

@@ -1,5 +1,5 @@
 -- About specs/Invariant: one event made, and one taken back, keep the trail of networks.
-use Rattle.std.proofs.Common.{◌≡◌, ℕ, zero, suc, ◌+◌, ◌-◌, ◌<◌, ◌≤◌, List, [], ◌∷◌, ◌++◌, length, take, slice_get, unwrap_or, Option, Some, None, Bool, true, false, IsTrue, IsFalse, IfSome, get_or, refl, ap, sym, subst, ◌∙◌, arith, length-append, below_more}
+use Rattle.std.proofs.Common.{◌≡◌, ℕ, zero, suc, ◌+◌, ◌-◌, ◌<◌, ◌≤◌, List, [], ◌∷◌, ◌++◌, length, take, slice_get, unwrap_or, option_to_list, Option, Some, None, Bool, true, false, IsTrue, IsFalse, IsSome, get_or, refl, ap, sym, subst, ◌∙◌, arith, length-append, below_more}
 use Rattle.std.proofs.lemmas.Option.{slice_get_within, slice_get_read, same_Some}
 use Rattle.std.specs.Borrow.{Bor}
 use Rattle.jc_rules.specs.declared.operation.Event.{Event}
@@ -126,6 +126,11 @@ moved_back d e t n ns sc tr br =
     let size : length d.traces ≡ length e.traces + 1 = ap length tr ∙ length-append e.traces (t ∷ []) in
     record { names = ns; start = sym (start_on e d n); schedule = sc; breaks = br; position = omega (arith, size) }
 
+-- the last of some traces was taken away
+pub last_gone : (r : Option Rows) (old new : List Rows) → IsSome r → old ≡ new ++ option_to_list r → (t : Rows) × (old ≡ new ++ t ∷ [])
+last_gone (Some t) old new some e = (t, e)
+last_gone None old new some e = cc
+
 -- the network before a step that was taken back
 pub undone : (b : Bool) (old new : NetworkHistory) → (IsTrue b → old.history.earlier ≡ timeline new.history) → (IsFalse b → (new ≡ old) × (old.history.earlier ≡ [])) → 0 < length old.history.earlier → old.history.earlier ≡ timeline new.history
 undone true old new t f some = t refl
@@ -197,9 +202,8 @@ trace_of d h n t e at =
       };
     }
 
-pub last_trace : (d : Seen) → IsDebugger d → (r : Option (Bor (List (Rule × ℕ)))) → IfSome r (λ rows. (t : Rows) × (slice_get d.traces (length d.traces - 1) ≡ Some t) × (rows.now ≡ t.rows)) → IfSome r (λ rows. IsTraceOf d rows.now)
-last_trace d h None x = tt
-last_trace d h (Some rows) (t, at, same) =
+pub last_trace : (d : Seen) → IsDebugger d → (t : Rows) (rows : List (Rule × ℕ)) → slice_get d.traces (length d.traces - 1) ≡ Some t → rows ≡ t.rows → IsTraceOf d rows
+last_trace d h t rows at same =
     let some = slice_get_within d.traces (length d.traces - 1) t at in
     subst (IsTraceOf d) (sym same) (trace_of d h (length d.traces - 1) t (omega (arith, some)) at)
 

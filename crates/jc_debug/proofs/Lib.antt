@@ -1,5 +1,4 @@
 pub mod InvariantLemmas
-pub mod TracesLemmas
 pub mod HaltLemmas
 pub mod BreaksLemmas
 pub mod RunLemmas

@@ -1,6 +1,5 @@
 pub mod DebuggerState
 pub mod Invariant
 pub mod Stored
-pub mod Traces
 pub mod Moves
 pub mod Laws

@@ -1,9 +1,12 @@
 //! The debugger: a network, its schedule, the traces of the events that were made, and breakpoints. Each call is a
 //! move, a question, or a change of breakpoints.
 
-ghost use Rattle.std.specs.Prelude.{◌≡◌, ◌≢◌, ◌+◌, ◌-◌, ◌<◌, ◌≤◌, ◌↔◌, ℕ, length, slice_get, Some, None, IsTrue, IsFalse, IsOk, IsNone, IfOk, IfErr, IfSome, IfNone, OnOk, OnErr, IsErrOf};
+ghost use Rattle.std.specs.Prelude.{◌≡◌, ◌≢◌, ◌+◌, ◌-◌, ◌<◌, ◌≤◌, ◌↔◌, ◌++◌, ◌∷◌, [], ℕ, length, slice_get, Some, None, IsTrue, IsFalse, IsOk, IsNone, IfOk, IfErr, IfSome, IfNone, OnOk, OnErr, IsErrOf};
 ghost use Rattle.jc_rules.specs.declared.limits.TheConstants.{MAX_BREAKS, MAX_EVENTS};
-ghost use Rattle.jc_network.specs.Given.{IsStarted, IsUnstartedFault};
+ghost use Rattle.jc_rules.specs.Runs.{rows_of_all};
+ghost use Rattle.jc_network.specs.declared.fault.StartFault.TheVariants as S;
+ghost use Rattle.jc_network.specs.declared.fault.Stuck.{Stuck as AnyStuck};
+ghost use Rattle.jc_network.specs.Given.{before_given, IsStarted, IsGivenFault, IsUnstartedFault};
 ghost use Rattle.jc_scenario.specs.WellFormed.{IsWellFormedScenario};
 ghost use Rattle.jc_scenario.specs.Views.{scenario_view};
 ghost use Rattle.jc_debug.specs.declared.breaks.Break.TheVariants as Kind;
@@ -13,12 +16,11 @@ ghost use Rattle.jc_debug.specs.Invariant.{IsDebugger, IsMoved, start_of, sessio
 
 use crate::breaks::Break;
 use crate::fault::{DebugFault, Halt, RunEnd};
-use crate::traces::Traces;
-use jc_network::{Net, StepFault, Unstarted};
+use jc_network::{Net, StartFault, StepFault, Unstarted};
 use jc_rules::limits::{MAX_BREAKS, MAX_EVENTS};
-use jc_rules::{Event, Refusal, Rule};
+use jc_rules::{Event, Refusal, Rule, Run, Trace};
 use jc_scenario::Scenario;
-use std::alloc::Global;
+use std::alloc::{AllocError, Global};
 use std::marker::Model;
 
 /// A network that moves along a schedule, forwards and backwards. Contracts see it as the networks at the positions up
@@ -29,7 +31,7 @@ pub struct Debugger {
     schedule: Vec<Event>,
     /// The trace of each event up to the position. Each is kept, since a step that was taken back can't be made again
     /// without memory.
-    traces: Traces,
+    traces: Vec<Trace>,
     /// Breakpoint j + 1 is at place j.
     breaks: [Option<Break>; MAX_BREAKS],
 }
@@ -43,19 +45,40 @@ impl Model for Debugger {
     ghost coded = { seen_code };
 
     ghost view = { λ a.
-        record { net = a.net; schedule = a.schedule.items; traces = a.traces; breaks = a.breaks } };
+        record { net = a.net; schedule = a.schedule.items; traces = a.traces.items; breaks = a.breaks } };
 
     ghost invariant = { λ a. IsDebugger
-        (record { net = a.net; schedule = a.schedule.items; traces = a.traces; breaks = a.breaks }) };
+        (record { net = a.net; schedule = a.schedule.items; traces = a.traces.items; breaks = a.breaks }) };
 }
 
 impl Debugger {
     /// Makes a debugger at the start of the scenario, without breakpoints. It takes over the scenario's names, scripts
     /// and schedule.
     ///
-    /// Refused: `Given`, with the first given event that is stuck and the scenario's names, where the scenario has no
-    /// start; else want of memory.
-    pub fn new(alloc: Global, scenario: Scenario) -> Result<Self, Unstarted>
+    /// Refused: `Given`, with the first given event that is stuck, where the scenario has no start; else want of memory.
+    pub fn new(alloc: Global, scenario: Scenario) -> Result<Self, StartFault>
+        requires { IsWellFormedScenario (scenario_view scenario) }
+        ensures net { IfOk result (λ debugger. IsStarted (scenario_view scenario) debugger.net) }
+        ensures session { IfOk result (λ debugger. session_of debugger ≡ new_session scenario.schedule.items) }
+        ensures given { (at : ℕ) (s : AnyStuck) → IsErrOf result (S.Given at s)
+            → IsGivenFault (before_given (scenario_view scenario)) (scenario_view scenario).given at s }
+    {
+        match Debugger::of(alloc, scenario) {
+            Ok(debugger) => Ok(debugger),
+            Err(
+                Unstarted::Given {
+                    names: _,
+                    at,
+                    stuck,
+                },
+            ) => Err(StartFault::Given { at, stuck }),
+            Err(Unstarted::Memory) => Err(StartFault::Memory),
+        }
+    }
+
+    /// Makes the debugger that `new` does. Where it is refused for a given event, it gives the scenario's names back,
+    /// by which the event is told.
+    pub fn of(alloc: Global, scenario: Scenario) -> Result<Self, Unstarted>
         requires { IsWellFormedScenario (scenario_view scenario) }
         ensures net { IfOk result (λ debugger. IsStarted (scenario_view scenario) debugger.net) }
         ensures session { IfOk result (λ debugger. session_of debugger ≡ new_session scenario.schedule.items) }
@@ -65,7 +88,7 @@ impl Debugger {
         Ok(Debugger {
             net,
             schedule,
-            traces: Traces::new(alloc),
+            traces: Vec::new(alloc),
             breaks: [None; MAX_BREAKS],
         })
     }
@@ -96,12 +119,15 @@ impl Debugger {
         &self.net
     }
 
-    /// Returns the rows of the trace of the event that led to the position. At the start there is none.
-    pub fn trace(&self) -> Option<&[(Rule, u64)]>
-        ensures trace { IfSome result (λ trace. IsTraceOf self.now trace.now) }
+    /// Returns the trace of the event that led to the position, as runs. At the start there is none.
+    pub fn trace(&self) -> Option<&[Run]>
+        ensures trace { IfSome result (λ runs. IsTraceOf self.now (rows_of_all runs.now)) }
         ensures start { IsNone result ↔ (length self.now.traces ≡ 0) }
     {
-        self.traces.last()
+        match self.traces.last() {
+            Some(trace) => Some(trace.runs()),
+            None => None,
+        }
     }
 
     // ---- moves
@@ -211,7 +237,7 @@ impl Debugger {
             Err(StepFault::Stuck(stuck)) => return Err(DebugFault::Stuck(stuck)),
             Err(StepFault::Memory) => return Err(DebugFault::Memory),
         };
-        if self.traces.push(&trace).is_err() {
+        if keep(&mut self.traces, &trace).is_err() {
             let _ = self.net.undo();
             return Err(DebugFault::Memory);
         }
@@ -293,7 +319,7 @@ impl Debugger {
             Err(StepFault::Stuck(stuck)) => return Err(Halt::Stuck(stuck)),
             Err(StepFault::Memory) => return Err(Halt::Memory { at }),
         };
-        if self.traces.push(&trace).is_err() {
+        if keep(&mut self.traces, &trace).is_err() {
             let _ = self.net.undo();
             return Err(Halt::Memory { at });
         }
@@ -321,7 +347,7 @@ impl Debugger {
         ensures { IsMoved self.old self.new (length self.old.traces - 1) }
     {
         let _ = self.net.undo();
-        self.traces.pop();
+        drop(self.traces.pop());
     }
 
     /// Returns the least place of a breakpoint that names the position.
@@ -352,7 +378,7 @@ impl Debugger {
         match b {
             Break::Position(n) => n == self.position(),
             Break::Rule(rule) => match self.trace() {
-                Some(rows) => has_rule(rows, rule),
+                Some(runs) => has_rule(runs, rule),
                 None => false,
             },
             Break::Replica(p) => self.is_last_of(p),
@@ -424,12 +450,22 @@ impl Debugger {
     }
 }
 
-/// Returns whether a row of the trace has the rule.
-fn has_rule(rows: &[(Rule, u64)], rule: Rule) -> bool
-    ensures { IsTrue result ↔ HasRule rows.now rule }
+/// Keeps a trace behind the others, without room that it doesn't need. After a refusal they are as they were.
+fn keep(traces: &mut Vec<Trace>, trace: &Trace) -> Result<(), AllocError>
+    ensures ok { OnOk result (traces.new.items ≡ traces.old.items ++ trace.now ∷ []) }
+    ensures err { OnErr result (traces.new.items ≡ traces.old.items) }
 {
-    for row in rows {
-        if row.0 == rule {
+    let kept = trace.copy()?;
+    traces.push(kept)?;
+    Ok(())
+}
+
+/// Returns whether a row of the trace has the rule.
+fn has_rule(runs: &[Run], rule: Rule) -> bool
+    ensures { IsTrue result ↔ HasRule (rows_of_all runs.now) rule }
+{
+    for run in runs {
+        if run.rule == rule && run.count > 0 {
             return true;
         }
     }

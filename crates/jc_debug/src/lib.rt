@@ -3,10 +3,8 @@
 
 mod breaks;
 mod debugger;
-mod descent;
 mod fault;
 pub mod laws;
-mod traces;
 
 pub use breaks::Break;
 pub use debugger::Debugger;

@@ -1,14 +1,16 @@
 -- About Rows: the line of a row with another last digit; the lines of rows are texts.
-use Rattle.std.proofs.Common.{◌≡◌, ℕ, zero, suc, ◌+◌, ◌/◌, ◌%◌, ◌^◌, ◌<◌, inl, inr, List, [], ◌∷◌, ◌++◌, length, set, take, get_or, codes, decimal, refl, sym, ap, subst, ◌∙◌, arith, length-append, append-nil, append_assoc}
+use Rattle.std.proofs.Common.{◌≡◌, ℕ, zero, suc, ◌+◌, ◌/◌, ◌%◌, ◌^◌, ◌<◌, inl, inr, List, [], ◌∷◌, ◌++◌, length, set, codes, decimal, refl, sym, ap, subst, ◌∙◌, arith, length-append, append-nil, append_assoc}
 use Rattle.std.specs.Str.{IsUtf8}
 use Rattle.std.proofs.lemmas.Bool.{cases_lt}
 use Rattle.std.proofs.lemmas.Fmt.{decimal_digit, decimal_step, IsAscii-decimal}
-use Rattle.std.proofs.lemmas.List.{set_at, take_more}
+use Rattle.std.proofs.lemmas.List.{set_at}
 use Rattle.std.proofs.lemmas.List.Concat.{flat_map-append}
 use Rattle.std.proofs.lemmas.Str.{IsUtf8-append, IsUtf8-from_ascii}
 use Rattle.std.proofs.lemmas.Str.Ascii.{IsAscii-nil, IsAscii-cons}
 use Rattle.jc_rules.specs.declared.rule.Rule.{Rule}
 use Rattle.jc_rules.specs.RuleNames.{rule_name}
+use Rattle.jc_rules.specs.Runs.{deeper}
+use Rattle.jc_rules.proofs.RunsLemmas.{deeper_more}
 use Rattle.jc_dump.specs.Lines.{row_text, trace_text}
 
 -- what is behind the depth
@@ -76,10 +78,18 @@ row_utf8 rule n small name =
     (IsUtf8-append (codes " ") (rule_name rule ++ codes "\n") (one_utf8 32 (omega arith))
     (IsUtf8-append (rule_name rule) (codes "\n") name (one_utf8 10 (omega arith)))))
 
--- ---- one row more
+-- ---- rows more
 
-pub trace_more : (rows : List (Rule × ℕ)) (i : ℕ) (d : Rule × ℕ) (old now new : List ℕ) → i < length rows → now ≡ old ++ trace_text (take i rows) → new ≡ now ++ row_text (get_or rows i d) → new ≡ old ++ trace_text (take (i + 1) rows)
-trace_more rows i d old now new inside so_far is =
-    let more : trace_text (take (i + 1) rows) ≡ trace_text (take i rows) ++ row_text (get_or rows i d) =
-    ap trace_text (take_more rows i d inside) ∙ (flat_map-append row_text (take i rows) (get_or rows i d ∷ []) ∙ ap (λ l. trace_text (take i rows) ++ l) (append-nil (row_text (get_or rows i d)))) in
-    is ∙ (ap (λ l. l ++ row_text (get_or rows i d)) so_far ∙ (append_assoc old (trace_text (take i rows)) (row_text (get_or rows i d)) ∙ ap (λ l. old ++ l) (sym more)))
+text_more : (xs ys : List (Rule × ℕ)) (old now new : List ℕ) → now ≡ old ++ trace_text xs → new ≡ now ++ trace_text ys → new ≡ old ++ trace_text (xs ++ ys)
+text_more xs ys old now new so_far is =
+    is
+    ∙ ap (λ l. l ++ trace_text ys) so_far
+    ∙ append_assoc old (trace_text xs) (trace_text ys)
+    ∙ ap (λ l. old ++ l) (sym (flat_map-append row_text xs ys))
+
+-- the next row of a run
+pub run_more : (rule : Rule) (depth i : ℕ) (old now new : List ℕ) → now ≡ old ++ trace_text (deeper rule depth i) → new ≡ now ++ row_text (rule, depth + i) → new ≡ old ++ trace_text (deeper rule depth (i + 1))
+run_more rule depth i old now new so_far is =
+    let row : Rule × ℕ = (rule, depth + i) in
+    text_more (deeper rule depth i) (row ∷ []) old now new so_far (is ∙ ap (λ l. now ++ l) (sym (append-nil (row_text row))))
+    ∙ ap (λ rows. old ++ trace_text rows) (sym (deeper_more rule depth i))

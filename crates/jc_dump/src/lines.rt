@@ -19,7 +19,7 @@ pub fn trace_text(alloc: Global, trace: &Trace) -> Result<String, AllocError>
     ensures { IfOk result (λ text. string_bytes text ≡ trace_text trace.now.rows) }
 {
     let mut lines = Vec::new(alloc);
-    push_rows(&mut lines, trace.rows())?;
+    push_rows(&mut lines, trace.runs())?;
     Ok(into_text(lines))
 }
 

@@ -2,12 +2,13 @@
 
 ghost use Rattle.std.specs.Prelude.{◌≡◌, ◌++◌, ◌/◌, length, is_ok, if◌then◌else◌, decimal, IsUtf8, IfOk, OnOk};
 ghost use Rattle.jc_rules.specs.RuleNames.{rule_name};
+ghost use Rattle.jc_rules.specs.Runs.{run_rows, rows_of_all};
 ghost use Rattle.jc_dump.specs.Bytes.{BeginsWith};
 ghost use Rattle.jc_dump.specs.Lines.{row_text, trace_text};
 ghost use Rattle.jc_dump.specs.Rows.{IsRowLine};
 
 use itoa::Buffer;
-use jc_rules::Rule;
+use jc_rules::{Rule, Run};
 use std::alloc::{AllocError, Global};
 
 /// How many bytes the longest line has: those of a depth, a blank, the longest name, and a line feed.
@@ -102,15 +103,29 @@ fn push_row(out: &mut Vec<u8>, rule: Rule, depth: u64) -> Result<usize, AllocErr
     Ok(digits.len())
 }
 
-/// Appends the lines of the rows. After a refusal those of some may be there.
-pub(crate) fn push_rows(out: &mut Vec<u8>, rows: &[(Rule, u64)]) -> Result<(), AllocError>
-    ensures lines { OnOk result (out.new.items ≡ out.old.items ++ trace_text rows.now) }
+/// Appends the lines of a run's rows. After a refusal those of some may be there.
+fn push_run(out: &mut Vec<u8>, line: &mut RowLine, run: &Run) -> Result<(), AllocError>
+    requires { IsRowLine line.old }
+    ensures line { OnOk result (IsRowLine line.new) }
+    ensures lines { OnOk result (out.new.items ≡ out.old.items ++ trace_text (run_rows run.now)) }
+    ensures begins { BeginsWith out.old.items out.new.items }
+    ensures utf8 { IsUtf8 out.old.items → IsUtf8 out.new.items }
+{
+    for i in 0..run.count {
+        line.push(out, run.rule, run.depth + u64::from(i))?;
+    }
+    Ok(())
+}
+
+/// Appends the lines of the rows of runs. After a refusal those of some may be there.
+pub(crate) fn push_rows(out: &mut Vec<u8>, runs: &[Run]) -> Result<(), AllocError>
+    ensures lines { OnOk result (out.new.items ≡ out.old.items ++ trace_text (rows_of_all runs.now)) }
     ensures begins { BeginsWith out.old.items out.new.items }
     ensures utf8 { IsUtf8 out.old.items → IsUtf8 out.new.items }
 {
     let mut line = RowLine::new(*out.allocator())?;
-    for (rule, depth) in rows {
-        line.push(out, *rule, *depth)?;
+    for run in runs {
+        push_run(out, &mut line, run)?;
     }
     Ok(())
 }

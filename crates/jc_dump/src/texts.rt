@@ -3,6 +3,7 @@
 ghost use Rattle.std.specs.Prelude.{◌≡◌, ◌++◌, IfOk, OnOk, OnErr, length, string_bytes, codes, decimal, IsUtf8};
 ghost use Rattle.jc_rules.specs.declared.operation.Event.{Event as AnyEvent};
 ghost use Rattle.jc_rules.specs.Refused.{Cause};
+ghost use Rattle.jc_rules.specs.Runs.{rows_of_all};
 ghost use Rattle.jc_printer.specs.Canon.{AreNamed};
 ghost use Rattle.jc_network.specs.Steps.{stuck_for};
 ghost use Rattle.jc_dump.specs.Bytes.{BeginsWith};
@@ -15,23 +16,24 @@ use crate::rows::push_rows;
 use itoa::Buffer;
 use jc_network::Stuck;
 use jc_printer::print_event;
-use jc_rules::{Event, Refusal, Rule, Text};
+use jc_rules::{Event, Refusal, Run, Text};
 use jc_scenario::Scenario;
 use std::alloc::{AllocError, Global};
 
-/// Returns the trace block of an event: a line with its number and the event, and a line for each row of its trace.
+/// Returns the trace block of an event: a line with its number and the event, and a line for each row of its trace,
+/// whose runs these are.
 pub fn block_text(
     alloc: Global,
     names: &[Text],
     n: u64,
     event: &Event,
-    rows: &[(Rule, u64)],
+    runs: &[Run],
 ) -> Result<String, AllocError>
     requires { AreNamed event.now (length names.now) }
-    ensures { IfOk result (λ text. string_bytes text ≡ block_text names.now n event.now rows.now) }
+    ensures { IfOk result (λ text. string_bytes text ≡ block_text names.now n event.now (rows_of_all runs.now)) }
 {
     let mut block = Vec::new(alloc);
-    push_block(&mut block, names, n, event, rows)?;
+    push_block(&mut block, names, n, event, runs)?;
     Ok(into_text(block))
 }
 
@@ -41,15 +43,15 @@ pub fn push_block(
     names: &[Text],
     n: u64,
     event: &Event,
-    rows: &[(Rule, u64)],
+    runs: &[Run],
 ) -> Result<(), AllocError>
     requires { AreNamed event.now (length names.now) }
-    ensures ok { OnOk result (out.new.items ≡ out.old.items ++ block_text names.now n event.now rows.now) }
+    ensures ok { OnOk result (out.new.items ≡ out.old.items ++ block_text names.now n event.now (rows_of_all runs.now)) }
     ensures err { OnErr result (out.new.items ≡ out.old.items) }
     ensures utf8 { IsUtf8 out.old.items → IsUtf8 out.new.items }
 {
     let before = out.len();
-    match write_block(out, names, n, event, rows) {
+    match write_block(out, names, n, event, runs) {
         Ok(()) => Ok(()),
         Err(error) => {
             out.truncate(before);
@@ -64,16 +66,16 @@ fn write_block(
     names: &[Text],
     n: u64,
     event: &Event,
-    rows: &[(Rule, u64)],
+    runs: &[Run],
 ) -> Result<(), AllocError>
     requires { AreNamed event.now (length names.now) }
-    ensures block { OnOk result (out.new.items ≡ out.old.items ++ block_text names.now n event.now rows.now) }
+    ensures block { OnOk result (out.new.items ≡ out.old.items ++ block_text names.now n event.now (rows_of_all runs.now)) }
     ensures begins { BeginsWith out.old.items out.new.items }
     ensures utf8 { IsUtf8 out.old.items → IsUtf8 out.new.items }
 {
     let event = print_event(*out.allocator(), names, event)?;
     push_head(out, n, event.as_str())?;
-    push_rows(out, rows)?;
+    push_rows(out, runs)?;
     Ok(())
 }
 

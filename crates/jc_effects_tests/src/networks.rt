@@ -7,7 +7,7 @@ ghost use Rattle.jc_scenario.specs.Views.{scenario_view};
 ghost use Rattle.jc_network.specs.Given.{before_given};
 
 use jc_effects::Effects;
-use jc_journal::{Before, event_effects};
+use jc_journal::event_effects;
 use jc_network::Net;
 use jc_rules::Event;
 use jc_scenario::Scenario;
@@ -45,9 +45,8 @@ fn effects_after(
 {
     let old = after(rt, alloc, scenario, events)?;
     let mut new = after(rt, alloc, scenario, events)?;
-    let before = Before::of(alloc, &new, event)?;
     match new.step(event) {
-        Ok(_) => event_effects(alloc, &old, &new, event, &before),
+        Ok(_) => event_effects(alloc, &old, &new, event),
         Err(_) => panic!(rt; "the event is refused"),
     }
 }

@@ -12,6 +12,7 @@ use Rattle.jc_rules.specs.State.{State}
 use Rattle.jc_rules.specs.Step.{Step, replica_of}
 use Rattle.jc_rules.specs.Syntax.{Cmd}
 use Rattle.jc_vectors.specs.StoredStates.{stored_op}
+use Rattle.jc_replica.specs.declared.last_step.LastStep.{LastStep}
 use Rattle.jc_replica.specs.ReplicaHistory.{ReplicaHistory}
 use Rattle.jc_network.specs.Laws.{IsReached}
 use Rattle.jc_network.specs.Steps.{HasReplica}
@@ -21,11 +22,10 @@ use Rattle.jc_effects.specs.Laws.{IsNextTree, IsChangedBy}
 use Rattle.jc_effects.proofs.OneLemmas.{one_difference}
 use Rattle.jc_effects.proofs.SomeDifferenceLemmas.{some_difference}
 use Rattle.jc_effects.proofs.LawsEventsLemmas.{AppliesJust, exec_applies, apply_applies, others_apply, IsTreeAfter, tree_after, changes}
-use Rattle.jc_journal.specs.declared.before.Before.{Before}
-use Rattle.jc_journal.specs.Before.{IsNoted}
 use Rattle.jc_journal.specs.EventLine.{event_op, AreEffectsOf, AreEffects}
-use Rattle.jc_journal.specs.Parts.{noted_op}
-use Rattle.jc_journal.proofs.EventLineLemmas.{parts_of_step, kept_before, kept_after}
+use Rattle.jc_journal.specs.Parts.{step_op}
+use Rattle.jc_journal.proofs.EventLineLemmas.{kept_before, kept_after}
+use Rattle.jc_journal.proofs.LastStepPartsLemmas.{HasParts}
 
 -- the operation of an event is the one that it applied
 event_applies : (scripts : List (List Cmd)) (network new : List State) (event : Event) (rows : List (Rule × ℕ)) → IsReached scripts network → (s : Step network event new rows) → AppliesJust s.before s.after (event_op event s.before s.after)
@@ -71,22 +71,16 @@ pub none_tells : (found : Option Op) (c d : Context) → None ≡ option_map sto
 none_tells None c d e h = (refl, h)
 none_tells (Some o) c d e h = absurd (no_none (stored_op o) (sym e))
 
--- ---- what was noted before an event
-
--- the operation that is kept is that of the event
-pub kept_op : (event : Event) (before : Before) (old new : List State) (rows : List (Rule × ℕ)) (replica : ReplicaHistory) → (s : Step old event new rows) → IsNoted event old before → HasReplica new (replica_of event) replica → noted_op event before replica.history.now ≡ option_map stored_op (event_op event s.before s.after)
-kept_op event before old new rows replica s noted has =
-    ap (noted_op event before) (kept_after event old new rows replica s has) ∙ (parts_of_step event before old new rows s noted).op
+-- ---- the identifier of an operation
 
 same_id : (found : Option Op) → option_map (λ (o : Op). o.id) (option_map stored_op found) ≡ option_map (λ (o : Op). o.id) found
 same_id None = refl
 same_id (Some o) = refl
 
 -- it is kept by its identifier
-pub kept_id : (event : Event) (before : Before) (old new : List State) (rows : List (Rule × ℕ)) (replica : ReplicaHistory) (kept : Option Op) → (s : Step old event new rows) → IsNoted event old before → HasReplica new (replica_of event) replica → kept ≡ noted_op event before replica.history.now
-    → option_map (λ (o : Op). o.id) kept ≡ option_map (λ (o : Op). o.id) (event_op event s.before s.after)
-kept_id event before old new rows replica kept s noted has e =
-    ap (option_map (λ (o : Op). o.id)) (e ∙ kept_op event before old new rows replica s noted has) ∙ same_id (event_op event s.before s.after)
+pub kept_id : (event : Event) (A B : State) (step : Option LastStep) (kept : Option Op) → HasParts event A B step → kept ≡ step_op step
+    → option_map (λ (o : Op). o.id) kept ≡ option_map (λ (o : Op). o.id) (event_op event A B)
+kept_id event A B step kept h e = ap (option_map (λ (o : Op). o.id)) (e ∙ h.op) ∙ same_id (event_op event A B)
 
 -- an event's replica is there after it
 pub not_gone : (event : Event) (old new : List State) (rows : List (Rule × ℕ)) → Step old event new rows → length new ≤ replica_of event → ⊥

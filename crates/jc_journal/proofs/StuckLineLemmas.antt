@@ -1,5 +1,5 @@
 -- About StuckLine: which replicas offer an operation, and which of its dependencies are missing.
-use Rattle.std.proofs.Common.{◌≡◌, ℕ, zero, suc, ◌+◌, ◌<◌, List, [], ◌∷◌, ◌++◌, Bool, true, false, not, ◌||◌, ◌&&◌, cond, Contains, ◌⊎◌, inl, inr, Option, Some, None, length, drop, take, map, slice_get, get_or, refl, sym, ◌∙◌, ap, subst, add-one}
+use Rattle.std.proofs.Common.{◌≡◌, ℕ, zero, suc, ◌+◌, ◌<◌, List, [], ◌∷◌, ◌++◌, Bool, true, false, not, ◌||◌, ◌&&◌, cond, Contains, ◌⊎◌, inl, inr, Option, Some, None, Bor, option_copied, is_some, length, drop, take, map, slice_get, get_or, refl, sym, ◌∙◌, ap, subst, add-one}
 use Rattle.std.proofs.lemmas.Option.{same_Some, slice_get_read}
 use Rattle.std.proofs.lemmas.List.Elements.{Contains-append_left, Contains-append_right}
 use Rattle.json.specs.Token.{Token}
@@ -22,6 +22,7 @@ use Rattle.jc_vectors.proofs.ApplyStandsLemmas.{deps_closed, kept_found}
 use Rattle.jc_replica.specs.Operations.{identifiers}
 use Rattle.jc_replica.specs.ReplicaHistory.{ReplicaHistory}
 use Rattle.jc_replica.proofs.MayApplyLemmas.{kept_absent}
+use Rattle.jc_replica.proofs.ReceivedUnionLemmas.{there_found, not_there_absent}
 use Rattle.jc_network.specs.Laws.{ops_held}
 use Rattle.jc_network.specs.Invariant.{IsFromStart}
 use Rattle.jc_network.specs.RunInvariant.{IsReplicaAt, IsWell}
@@ -34,7 +35,15 @@ use Rattle.jc_meaning.proofs.ComparisonLemmas.{held_has, run_well, stands_held}
 use Rattle.jc_json.specs.Values.{string_items}
 use Rattle.jc_journal.specs.StuckLine.{offering_from, deps_of, missing_ids}
 use Rattle.jc_journal.specs.Parts.{name_tokens, made_ids, IsMissingOf}
-use Rattle.jc_journal.proofs.BeforeLemmas.{identifiers-append}
+
+identifiers-append : (os ps : List Op) → identifiers (os ++ ps) ≡ identifiers os ++ identifiers ps
+identifiers-append [] ps = refl
+identifiers-append (o ∷ os) ps = ap (λ (is : List Id). o.id ∷ is) (identifiers-append os ps)
+
+-- whether an operation is found
+pub found_tells : (i : Id) (os : List Op) (found : Option (Bor Op)) → option_copied found ≡ op_of i os → is_some found ≡ has_id i (identifiers os)
+found_tells i os None e = sym (not_there_absent i os (sym e))
+found_tells i os (Some o) e = sym (there_found i os o.now (sym e))
 
 -- ---- who offers it
 

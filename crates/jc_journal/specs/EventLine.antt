@@ -11,11 +11,12 @@ use Rattle.jc_rules.specs.declared.operation.Event.TheVariants as E
 use Rattle.jc_rules.specs.declared.operation.Op.{Op}
 use Rattle.jc_rules.specs.declared.rule.Rule.{Rule}
 use Rattle.jc_rules.specs.Context.{Context}
+use Rattle.jc_rules.specs.History.{History}
 use Rattle.jc_rules.specs.Ids.{without}
 use Rattle.jc_rules.specs.ReplicaNames.{name_at}
 use Rattle.jc_rules.specs.RuleNames.{rule_name}
 use Rattle.jc_rules.specs.State.{State}
-use Rattle.jc_rules.specs.Step.{replica_of}
+use Rattle.jc_rules.specs.Step.{Network, replica_of}
 use Rattle.jc_rules.specs.Syntax.{Cmd}
 use Rattle.jc_rules.specs.Table.{op_of}
 use Rattle.jc_printer.specs.Canon.{canon_cmd, canon_event}
@@ -25,6 +26,11 @@ use Rattle.jc_effects.specs.Difference.{Differences, IsDifference}
 use Rattle.jc_effects.specs.EffectsJson.{effects_json}
 use Rattle.jc_json.specs.Values.{ids_json}
 use Rattle.jc_journal.specs.Operation.{NamedJson, json_object, op_json}
+
+-- the network is the one before the last step of the history
+pub record IsBeforeLast (network : Network) (h : History Network) : Type 0 where
+  pub before : List Network
+  pub earlier : h.earlier ≡ before ++ network ∷ []
 
 -- ---- what every event has
 

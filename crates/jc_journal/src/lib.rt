@@ -2,7 +2,6 @@
 //! event that is stuck.
 #![tactic(auto)]
 
-mod before;
 mod effects;
 mod event;
 mod lookup;
@@ -10,7 +9,6 @@ mod members;
 mod operation;
 mod stuck;
 
-pub use before::Before;
 pub use effects::event_effects;
 pub use event::{NumberedEvent, event_line, event_op_id};
 pub use stuck::stuck_line;

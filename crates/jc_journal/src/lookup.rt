@@ -1,6 +1,6 @@
 //! Looks operations up by identifier in lists that are sorted by it.
 
-ghost use Rattle.std.specs.Prelude.{◌≡◌, option_copied, drop};
+ghost use Rattle.std.specs.Prelude.{◌≡◌, option_copied};
 ghost use Rattle.jc_rules.specs.Ids.{has_id};
 ghost use Rattle.jc_rules.specs.Table.{op_of};
 ghost use Rattle.jc_replica.specs.Operations.{identifiers, AreInOrder};
@@ -24,14 +24,4 @@ pub(crate) fn has(ops: &[Op], id: Id) -> bool
     ensures { result ≡ has_id id (identifiers ops.now) }
 {
     find(ops, id).is_some()
-}
-
-/// The operations without the first ones.
-pub(crate) fn rest(ops: &[Op], count: usize) -> &[Op]
-    ensures { result.now ≡ drop count ops.now }
-{
-    if count > ops.len() {
-        return &[];
-    }
-    &ops[count..]
 }

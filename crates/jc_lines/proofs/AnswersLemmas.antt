@@ -1,11 +1,12 @@
 -- Answers that are made of texts without LF have none.
-use Rattle.std.proofs.Common.{ℕ, List, [], ◌∷◌, ◌++◌, map, codes, decimal, refl}
+use Rattle.std.proofs.Common.{ℕ, List, [], ◌∷◌, ◌++◌, map, take, codes, refl}
 use Rattle.std.specs.List.{AllByRecursion}
 use Rattle.jc_printer.specs.Canon.{quoted}
 use Rattle.jc_rules.specs.declared.refusal.Refusal.{Refusal}
 use Rattle.jc_rules.specs.Refusals.{refusal_name}
-use Rattle.jc_answers.specs.JsonTexts.{NamedText, number_member, string_member, text_member, with_commas, array_text, member_text, object_text}
-use Rattle.jc_answers.specs.Refusals.{refused_object, refusal_members, refusal_answer, placed_members, IsRefusedText}
+use Rattle.jc_answers.specs.JsonTexts.{NamedText, number_member, text_member, with_commas, array_text, member_text, object_text}
+use Rattle.jc_answers.specs.Refusals.{refused_object, refusal_members, refusal_answer, line_behind, placed_members, IsRefusedTextWith, IsRefusedText}
+use Rattle.jc_expected.specs.Expected.{told, IsExpected}
 use Rattle.jc_lines.specs.OneLine.{HasNoLf}
 use Rattle.jc_lines.proofs.NoLfLemmas.{literal, whole, more, decimal_line, canon_quoted}
 
@@ -43,7 +44,25 @@ refused_line ms h = object_line (text_member (codes "refused") (object_text ms))
 pub refusal_line : (refusal : Refusal) → HasNoLf (refusal_answer refusal)
 refusal_line refusal = refused_line (refusal_members refusal) (canon_quoted (refusal_name refusal), (decimal_line _, tt))
 
+have_more : (ms ns : List NamedText) → HaveLines ms → HaveLines ns → HaveLines (ms ++ ns)
+have_more [] ns h k = k
+have_more (m ∷ ms) ns h k = (h.0, have_more ms ns h.1 k)
+
+pub text_line_with : (more : List NamedText) (text : List ℕ) (refusal : Refusal) (at : ℕ) (answer : List ℕ) → HaveLines more → IsRefusedTextWith more text refusal at answer → HasNoLf answer
+text_line_with more text refusal at answer lines h =
+    let behind = number_member (codes "line") (line_behind (take at text)) ++ refusal_members refusal ++ number_member (codes "offset") at in
+    rw h.is (refused_line (placed_members text refusal at h.stop more)
+    (decimal_line _, (decimal_line h.stop, have_more more behind lines (decimal_line _, (canon_quoted (refusal_name refusal), (decimal_line _, (decimal_line at, tt)))))))
+
 pub text_line : (text : List ℕ) (refusal : Refusal) (at : ℕ) (answer : List ℕ) → IsRefusedText text refusal at answer → HasNoLf answer
-text_line text refusal at answer h =
-    rw h.is (refused_line (placed_members text refusal at h.stop)
-    (decimal_line _, (decimal_line h.stop, (decimal_line _, (canon_quoted (refusal_name refusal), (decimal_line _, (decimal_line at, tt)))))))
+text_line text refusal at answer h = text_line_with [] text refusal at answer tt h
+
+quoted_lines : (ws : List (List ℕ)) → AreLines (map quoted ws)
+quoted_lines [] = tt
+quoted_lines (w ∷ ws) = (canon_quoted w, quoted_lines ws)
+
+pub expected_line : (text : List ℕ) (at : ℕ) (list : List ℕ) → IsExpected text at list → HasNoLf list
+expected_line text at list h = rw h.is (array_line (map quoted (told h.goes_on)) (quoted_lines (told h.goes_on)))
+
+pub misfit_line : (text : List ℕ) (refusal : Refusal) (at : ℕ) (list answer : List ℕ) → IsExpected text at list → IsRefusedTextWith (text_member (codes "expected") list) text refusal at answer → HasNoLf answer
+misfit_line text refusal at list answer expected h = text_line_with (text_member (codes "expected") list) text refusal at answer (expected_line text at list expected, tt) h

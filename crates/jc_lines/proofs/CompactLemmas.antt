@@ -1,6 +1,5 @@
 -- Compact texts of data have no LF.
-use Rattle.std.proofs.Common.{ℕ, suc, pos, negsuc, Bool, true, false, List, [], ◌∷◌, refl}
-use Rattle.json.specs.Token.{Token}
+use Rattle.std.proofs.Common.{suc, pos, negsuc, Bool, true, false, [], ◌∷◌, refl}
 use Rattle.serde_json.specs.Data.{Num, unsigned, negative, float, Data, null, boolean, number, string, array, object, Items, no_items, item, Members, no_members, member}
 use Rattle.serde_json.specs.Written.{number_text, compact_text, items_text, members_text, comma_if}
 use Rattle.jc_lines.specs.OneLine.{HasNoLf}

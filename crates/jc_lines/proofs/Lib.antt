@@ -6,3 +6,6 @@ mod PlaceNumbersLemmas
 pub mod LooksLemmas
 pub mod StuckLinesLemmas
 pub mod RepliesLemmas
+pub mod EventLinesLemmas
+pub mod ListingsLemmas
+pub mod ServeLemmas

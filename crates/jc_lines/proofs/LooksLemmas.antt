@@ -1,5 +1,5 @@
 -- About Laws: what a look shows has no LF.
-use Rattle.std.proofs.Common.{◌≡◌, ℕ, suc, ◌-◌, ◌⊎◌, inl, inr, List, [], ◌∷◌, ◌++◌, length, take, Option, Some, None, refl, sym, subst, ap, ◌∙◌, arith, length-append, codes}
+use Rattle.std.proofs.Common.{ℕ, suc, inl, inr, List, [], ◌∷◌, ◌++◌, Some, None}
 use Rattle.json.specs.Print.{print}
 use Rattle.json.specs.Tree.{json_tokens}
 use Rattle.serde_json.specs.Written.{compact_text}
@@ -16,7 +16,6 @@ use Rattle.jc_dump.specs.Dump.{bound_data, bound_text, brief_members, brief_text
 use Rattle.jc_view.specs.Visible.{view_line, view_json, line_json}
 use Rattle.jc_view.specs.Places.{place_line, shown_at}
 use Rattle.jc_view.proofs.NumbersLemmas.{view_numbers}
-use Rattle.jc_answers.specs.JsonTexts.{array_text}
 use Rattle.jc_answers.specs.Refusals.{refusal_members}
 use Rattle.jc_looks.specs.declared.looks.Look.{Look}
 use Rattle.jc_looks.specs.declared.looks.Look.TheVariants as L
@@ -61,10 +60,10 @@ viewed_line names name A (Pairs pairs) = bound_line names (Pairs pairs)
 
 -- ---- answers
 
-refusal_lines : (refusal : Refusal) → HaveLines (refusal_members refusal)
+pub refusal_lines : (refusal : Refusal) → HaveLines (refusal_members refusal)
 refusal_lines refusal = (canon_quoted (refusal_name refusal), (decimal_line (refusal_number refusal), tt))
 
-no_value_line : (names : List (List ℕ)) (why : Cause) → HasNoLf (no_value_answer names why)
+pub no_value_line : (names : List (List ℕ)) (why : Cause) → HasNoLf (no_value_answer names why)
 no_value_line names (because refusal) = refused_line (refusal_members refusal) (refusal_lines refusal)
 no_value_line names (no_node k) = refused_line (missing_key names (no_node k) ++ refusal_members (refusal_of (no_node k))) (canon_quoted (tagged_text names k), refusal_lines (refusal_of (no_node k)))
 

@@ -1,5 +1,5 @@
 -- Texts without LF: parts and wholes, bytes, digits, strings.
-use Rattle.std.proofs.Common.{◌≡◌, ℕ, zero, suc, ◌+◌, ◌-◌, ◌/◌, ◌%◌, ◌≤◌, ◌≢◌, Bool, true, false, cond, ◌==◌, ◌||◌, nat_lt, nat_le, codes, List, [], ◌∷◌, ◌++◌, length, take, filter, flat_map, refl, sym, subst, ap, ◌∙◌, arith, length-append, inl, inr}
+use Rattle.std.proofs.Common.{◌≡◌, ℕ, zero, suc, ◌+◌, ◌-◌, ◌/◌, ◌%◌, ◌≢◌, Bool, true, false, cond, ◌==◌, ◌||◌, nat_lt, nat_le, codes, List, [], ◌∷◌, ◌++◌, length, take, filter, flat_map, refl, sym, subst, ap, ◌∙◌, arith, length-append, inl, inr}
 use Rattle.std.proofs.lemmas.Bool.{cases_Bool, ne_eqb, eqb-true, eqb-false}
 use Rattle.std.proofs.lemmas.Bool.Decides.{nat_tests}
 use Rattle.std.proofs.Math.Seq.{take-append_seam}

@@ -1,5 +1,5 @@
 -- About Laws: the answer of a session's reply has no LF.
-use Rattle.std.proofs.Common.{◌≡◌, ℕ, ◌+◌, List, [], ◌∷◌, ◌++◌, map, Option, Some, None, true, false, codes, decimal, refl}
+use Rattle.std.proofs.Common.{ℕ, ◌+◌, List, [], ◌∷◌, ◌++◌, map, Option, Some, None, true, false, codes, decimal, refl}
 use Rattle.jc_rules.specs.declared.operation.Event.{Event}
 use Rattle.jc_rules.specs.declared.rule.Rule.{Rule}
 use Rattle.jc_rules.specs.Refused.{Cause}
@@ -11,7 +11,7 @@ use Rattle.jc_meaning.specs.declared.comparison.Comparison.TheVariants.{SameOps,
 use Rattle.jc_session.specs.Reply as Y
 use Rattle.jc_session.specs.Reply.{Reply}
 use Rattle.jc_answers.specs.JsonTexts.{NamedText, number_member, text_member, array_text}
-use Rattle.jc_replies.specs.ReplyTexts.{Background, true_member, event_to, event_member, stuck_member, move_answer, went_answer, ran_answer, event_texts, events_answer, row_text, trace_answer, compared_answer, IsAnswer}
+use Rattle.jc_replies.specs.ReplyTexts.{Background, true_member, event_to, event_member, stuck_member, move_answer, went_answer, ran_answer, event_texts, row_text, trace_answer, compared_answer, IsAnswer}
 use Rattle.jc_looks.specs.Looks.{state_text, texts_from}
 use Rattle.jc_lines.specs.OneLine.{HasNoLf}
 use Rattle.jc_lines.proofs.NoLfLemmas.{literal, decimal_line, canon_quoted}
@@ -21,7 +21,7 @@ use Rattle.jc_lines.proofs.StuckLinesLemmas.{stuck_line}
 
 -- ---- members
 
-both : (ms ns : List NamedText) → HaveLines ms → HaveLines ns → HaveLines (ms ++ ns)
+pub both : (ms ns : List NamedText) → HaveLines ms → HaveLines ns → HaveLines (ms ++ ns)
 both [] ns h g = g
 both (m ∷ ms) ns h g = (h.0, both ms ns h.1 g)
 
@@ -29,12 +29,12 @@ event_lines : (names : List (List ℕ)) (event : Option Event) → HaveLines (ev
 event_lines names None = tt
 event_lines names (Some event) = (canon_quoted (canon_event names event), tt)
 
-stuck_lines : (B : Background) (n : ℕ) (why : Cause) (event : Event) → HaveLines (stuck_member B n why event)
+pub stuck_lines : (B : Background) (n : ℕ) (why : Cause) (event : Event) → HaveLines (stuck_member B n why event)
 stuck_lines B n why event = (stuck_line B.names false (n + 1) B.states why event, tt)
 
 -- ---- moves
 
-move_line : (B : Background) (n : ℕ) (end more : List NamedText) → HaveLines end → HaveLines more → HasNoLf (move_answer B n end more)
+pub move_line : (B : Background) (n : ℕ) (end more : List NamedText) → HaveLines end → HaveLines more → HasNoLf (move_answer B n end more)
 move_line B n end more h g =
     let event = event_member B.names (event_to B n) in
     object_line (number_member (codes "at") n ++ (end ++ (event ++ more))) (decimal_line n, both end (event ++ more) h (both event more (event_lines B.names (event_to B n)) g))
@@ -50,7 +50,7 @@ ran_line B n ends = move_line B n (true_member (codes "end")) [] (literal (codes
 
 -- ---- what is shown
 
-events_lines : (names : List (List ℕ)) (events : List Event) → AreLines (event_texts names events)
+pub events_lines : (names : List (List ℕ)) (events : List Event) → AreLines (event_texts names events)
 events_lines names [] = tt
 events_lines names (event ∷ events) = (canon_quoted (canon_event names event), events_lines names events)
 

@@ -28,15 +28,15 @@ use Rattle.jc_lines.proofs.PrintedLemmas.{HasLineNumbers, ItemsHaveLineNumbers, 
 abbrev pub AreLineMembers : List NamedJson → Type 0
 AreLineMembers es = AllByRecursion (λ e. HasLineNumbers e.1) es
 
-both : (es fs : List NamedJson) → AreLineMembers es → AreLineMembers fs → AreLineMembers (es ++ fs)
+pub both : (es fs : List NamedJson) → AreLineMembers es → AreLineMembers fs → AreLineMembers (es ++ fs)
 both [] fs h g = g
 both (e ∷ es) fs h g = (h.0, both es fs h.1 g)
 
-in_object : (es : List NamedJson) → AreLineMembers es → MembersHaveLineNumbers (json_members es)
+pub in_object : (es : List NamedJson) → AreLineMembers es → MembersHaveLineNumbers (json_members es)
 in_object [] h = tt
 in_object (e ∷ es) h = (h.0, in_object es h.1)
 
-strings_lines : (ss : List (List ℕ)) → ItemsHaveLineNumbers (string_items ss)
+pub strings_lines : (ss : List (List ℕ)) → ItemsHaveLineNumbers (string_items ss)
 strings_lines [] = tt
 strings_lines (s ∷ ss) = (tt, strings_lines ss)
 
@@ -46,7 +46,7 @@ listed false name ss = tt
 
 -- ---- those of a stuck event
 
-given_lines : (given : Bool) → AreLineMembers (given_member given)
+pub given_lines : (given : Bool) → AreLineMembers (given_member given)
 given_lines true = (tt, tt)
 given_lines false = tt
 

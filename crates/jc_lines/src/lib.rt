@@ -1,7 +1,7 @@
 //! Laws of answers to programs: each is one line. Each function does nothing: its contract is the law.
 #![tactic(auto)]
 
-ghost use Rattle.jc_lines.specs.Laws.{ObjectsAreLines, ListsAreLines, RefusalsAreLines, LooksAreLines, RepliesAreLines};
+ghost use Rattle.jc_lines.specs.Laws.{ObjectsAreLines, ListsAreLines, RefusalsAreLines, LooksAreLines, RepliesAreLines, AnswersAreLines, RequestsHaveLines};
 
 /// An object whose members are lines is one line.
 pub fn objects_are_lines()
@@ -26,4 +26,15 @@ pub fn looks_are_lines()
 /// The answer of a session's reply is one line.
 pub fn replies_are_lines()
     ensures { RepliesAreLines }
+{}
+
+/// Each answer of `serve` is one line: to requests about a text, to the one that brought it, and to a line that asks for
+/// nothing.
+pub fn answers_are_lines()
+    ensures { AnswersAreLines }
+{}
+
+/// What `serve` writes has as many lines as it has answered requests.
+pub fn requests_have_lines()
+    ensures { RequestsHaveLines }
 {}

@@ -9,8 +9,7 @@ ghost use Rattle.jc_printer.specs.Canon.{AreNamed};
 ghost use Rattle.jc_scenario.specs.Views.{scenario_view};
 ghost use Rattle.jc_scenario.specs.WellFormed.{IsWellFormedScenario};
 ghost use Rattle.jc_network.specs.Steps.{IsStuckFor};
-ghost use Rattle.jc_journal.specs.Before.{IsNoted};
-ghost use Rattle.jc_journal.specs.EventLine.{AreEffects};
+ghost use Rattle.jc_journal.specs.EventLine.{IsBeforeLast, AreEffects};
 ghost use Rattle.jc_journal.specs.Parts.{rows_of, differences_in};
 ghost use Rattle.jc_answers.specs.JsonTexts.{array_text};
 ghost use Rattle.jc_listings.specs.Journals.{rules_asked, AreLines, events_between, ListsLines, IsLineBehind};
@@ -20,9 +19,9 @@ ghost use Rattle.jc_listings.specs.Positions.{all_events, IsAt};
 use crate::events::AllEvents;
 use jc_answers::{ArrayText, unended};
 use jc_effects::Effects;
-use jc_journal::{Before, NumberedEvent, event_effects, event_line, stuck_line};
+use jc_journal::{NumberedEvent, event_effects, event_line, stuck_line};
 use jc_network::{Net, StepFault, Stuck};
-use jc_rules::{Event, Rule, Trace};
+use jc_rules::{Event, Run, Trace};
 use jc_scenario::Scenario;
 use std::alloc::{AllocError, Global};
 
@@ -53,11 +52,11 @@ struct Networks {
 // ---- lines
 
 /// The rules of an event, where they are asked for.
-fn rules_asked(rules: &Trace, details: Details) -> Option<&[(Rule, u64)]>
+fn rules_asked(rules: &Trace, details: Details) -> Option<&[Run]>
     ensures { rows_of result ≡ rules_asked details.trace rules.now.rows }
 {
     if details.trace {
-        Some(rules.rows())
+        Some(rules.runs())
     } else {
         None
     }
@@ -68,12 +67,11 @@ fn effects_asked(
     alloc: Global,
     networks: &Networks,
     event: &Event,
-    before: &Before,
     details: Details,
 ) -> Result<Option<Effects>, AllocError>
     requires made { (rows : List (AnyRule × ℕ))
         × StepIn networks.now.second.history.now event.now networks.now.first.history.now rows }
-    requires noted { IsNoted event.now networks.now.second.history.now.states before.now }
+    requires last { IsBeforeLast networks.now.second.history.now networks.now.first.history }
     ensures { IfOk result (λ effects. (rows : List (AnyRule × ℕ))
         → (made : StepIn networks.now.second.history.now event.now networks.now.first.history.now rows)
         → AreEffects details.effects event.now made.step.before made.step.after (differences_in effects)) }
@@ -81,7 +79,7 @@ fn effects_asked(
     if !details.effects {
         return Ok(None);
     }
-    event_effects(alloc, &networks.second, &networks.first, event, before)
+    event_effects(alloc, &networks.second, &networks.first, event)
 }
 
 /// The line of an event that led from the second network to the first.
@@ -94,20 +92,13 @@ fn made_line(
 ) -> Result<Vec<u8>, AllocError>
     requires named { AreNamed next.now.event (length networks.now.first.names) }
     requires made { StepIn networks.now.second.history.now next.now.event networks.now.first.history.now rules.now.rows }
+    requires last { IsBeforeLast networks.now.second.history.now networks.now.first.history }
     ensures { IfOk result (λ line. IsLineMade details networks.now.first.names next.now
         networks.now.second.history.now networks.now.first.history.now line.items) }
 {
-    let before = Before::of(alloc, &networks.second, &next.event)?;
-    let effects = effects_asked(alloc, networks, &next.event, &before, details)?;
+    let effects = effects_asked(alloc, networks, &next.event, details)?;
     let rules = rules_asked(rules, details);
-    let line = event_line(
-        alloc,
-        &networks.first,
-        next,
-        &before,
-        rules,
-        effects.as_ref(),
-    )?;
+    let line = event_line(alloc, &networks.first, next, rules, effects.as_ref())?;
     Ok(unended(line))
 }
 

@@ -50,7 +50,7 @@ enum Want {
 fn outcome(answer: StepAnswer, want: Want) -> Outcome {
     match (answer, want) {
         (StepAnswer::Made { number, trace }, Want::Made(wanted)) => {
-            done_if(number == wanted && !trace.rows().is_empty())
+            done_if(number == wanted && !trace.runs().is_empty())
         }
         (StepAnswer::Refused { front, stuck }, Want::Stuck(wanted, number)) => {
             done_if(front == wanted && stuck.number == number)

@@ -141,11 +141,11 @@ fn act(debugger: &mut Debugger, event: &Event) -> Outcome {
     }
 }
 
-/// A debugger's state at a position: dump lines, and the number of rules of the event that led there.
+/// A debugger's state at a position: dump lines, and the number of runs of rules of the event that led there.
 #[derive(Drop)]
 struct Seen {
     lines: String,
-    rules: usize,
+    runs: usize,
 }
 
 /// A debugger that is to go from one position to another.
@@ -163,10 +163,10 @@ struct Way<'a> {
     farthest: u64,
 }
 
-/// The number of rules of the last event.
-fn rules(debugger: &Debugger) -> usize {
+/// The number of runs of rules of the last event.
+fn runs(debugger: &Debugger) -> usize {
     match debugger.trace() {
-        Some(rows) => rows.len(),
+        Some(runs) => runs.len(),
         None => 0,
     }
 }
@@ -176,7 +176,7 @@ impl<'a> Way<'a> {
     fn shows_its_position(&self) -> bool {
         match self.seen.get(self.debugger.position() as usize) {
             Some(seen) => {
-                rules(&self.debugger) == seen.rules
+                runs(&self.debugger) == seen.runs
                     && has_dumps(self.alloc, self.debugger.net(), seen.lines.as_str())
             }
             None => false,
@@ -251,8 +251,8 @@ fn seen_by(
     for position in 0..=most {
         holds(rt, debugger.goto(position).is_ok());
         let lines = dumps(alloc, debugger.net()).ok().expect(rt, "dumps");
-        let rules = rules(debugger);
-        all.push(Seen { lines, rules })?;
+        let runs = runs(debugger);
+        all.push(Seen { lines, runs })?;
     }
     Ok(all)
 }

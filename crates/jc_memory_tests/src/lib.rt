@@ -15,6 +15,8 @@ mod due;
 #[cfg(test)]
 mod halting;
 #[cfg(test)]
+mod lists;
+#[cfg(test)]
 mod memory;
 #[cfg(test)]
 mod networks;

@@ -30,9 +30,21 @@ pub fn answer_to(net: &mut Net, event: &Event) -> Answer {
     }
 }
 
+/// Whether the traces have the same runs. It takes no memory.
+pub fn is_trace(trace: &Trace, ample: &Trace) -> bool {
+    let mut same = trace.runs().len() == ample.runs().len();
+    for (one, other) in trace.runs().iter().zip(ample.runs()) {
+        same = same
+            && one.rule == other.rule
+            && one.count == other.count
+            && one.depth == other.depth;
+    }
+    same
+}
+
 fn outcome(answer: &Answer, want: &Answer) -> Outcome {
     match (answer, want) {
-        (Answer::Made(trace), Answer::Made(ample)) => done_if(trace.rows() == ample.rows()),
+        (Answer::Made(trace), Answer::Made(ample)) => done_if(is_trace(trace, ample)),
         (Answer::Stuck(number), Answer::Stuck(ample)) => done_if(number == ample),
         (Answer::Memory, _) => Outcome::Refused,
         _ => Outcome::Wrong,

@@ -9,6 +9,7 @@ ghost use Rattle.jc_memory_tests.specs.Ready.{IsReady};
 
 use crate::attempts::{MOST, Outcome, done_if, holds, is_done, refused_if};
 use crate::memory::{budget, fill, leave};
+use crate::steps::is_trace;
 use jc_apply::{ApplyFault, apply_op};
 use jc_clear::{clear, clear_elem};
 use jc_cursor::{EvalFault, eval};
@@ -23,7 +24,7 @@ use std::test::Fail;
 
 /// A key, as a table writes it.
 #[derive(Clone, Copy)]
-enum At {
+pub enum At {
     Doc,
     Head,
     Name(&'static str),
@@ -32,24 +33,26 @@ enum At {
 }
 
 #[derive(Clone, Copy)]
-enum Does {
+pub enum Does {
     AssignMap,
     AssignList,
     AssignNull,
     InsertMap,
+    InsertNull,
     Delete,
 }
 
 /// An operation: the keys down to its last key, `true` for those of lists, and what it does.
-struct Made {
-    path: &'static [(bool, At)],
-    last: At,
-    does: Does,
+#[derive(Clone, Copy)]
+pub struct Made {
+    pub path: &'static [(bool, At)],
+    pub last: At,
+    pub does: Does,
 }
 
-const IN_MAP: &[(bool, At)] = &[(false, At::Doc)];
+pub const IN_MAP: &[(bool, At)] = &[(false, At::Doc)];
 
-const IN_LIST: &[(bool, At)] = &[(false, At::Doc), (true, At::Name("l"))];
+pub const IN_LIST: &[(bool, At)] = &[(false, At::Doc), (true, At::Name("l"))];
 
 const IN_ELEMENT: &[(bool, At)] = &[
     (false, At::Doc),
@@ -146,6 +149,7 @@ fn mutation_of(does: Does) -> Mutation {
         Does::AssignList => Mutation::Assign(Value::EmptyList),
         Does::AssignNull => Mutation::Assign(Value::Null),
         Does::InsertMap => Mutation::Insert(Value::EmptyMap),
+        Does::InsertNull => Mutation::Insert(Value::Null),
         Does::Delete => Mutation::Delete,
     }
 }
@@ -158,7 +162,7 @@ fn all_to(alloc: Global, counter: u64) -> Result<IdSet, AllocError> {
 }
 
 /// The operation with this index.
-fn op_of(alloc: Global, made: &Made, count: u64) -> Result<Op, AllocError>
+pub fn op_of(alloc: Global, made: &Made, count: u64) -> Result<Op, AllocError>
     requires { count < 100 }
     ensures { IfOk result (λ op. op.id.counter ≡ count + 1) }
 {
@@ -177,7 +181,7 @@ fn op_of(alloc: Global, made: &Made, count: u64) -> Result<Op, AllocError>
 }
 
 /// The document as a text.
-fn shown<S: TreeStore>(alloc: Global, store: &S) -> Result<String, AllocError> {
+pub fn shown<S: TreeStore>(alloc: Global, store: &S) -> Result<String, AllocError> {
     let names = [text(alloc, "a")?];
     let tree = Tree {
         alloc,
@@ -187,7 +191,7 @@ fn shown<S: TreeStore>(alloc: Global, store: &S) -> Result<String, AllocError> {
     serde_json::to_string(alloc, &tree).map_err(|_| AllocError)
 }
 
-fn is_shown<S: TreeStore>(alloc: Global, store: &S, want: &str) -> bool {
+pub fn is_shown<S: TreeStore>(alloc: Global, store: &S, want: &str) -> bool {
     match shown(alloc, store) {
         Ok(text) => text.as_str() == want,
         Err(_) => false,
@@ -223,7 +227,7 @@ fn is_applied<S: TreeStore>(
 /// Applies the operation with this index, once there is enough memory. Returns the number of refusals, after which
 /// document and trace were as before.
 #[tactic(auto, using(crate::proofs::MadeLemmas::ready_on))]
-fn applied_at_last<S: TreeStore>(
+pub fn applied_at_last<S: TreeStore>(
     rt: &impl Abort,
     alloc: Global,
     store: &mut S,
@@ -244,7 +248,7 @@ fn applied_at_last<S: TreeStore>(
         }
         holds(
             rt,
-            trace.rows().is_empty() && store.mark().changes == changes,
+            trace.runs().is_empty() && store.mark().changes == changes,
         );
         holds(rt, is_shown(alloc, store, before.as_str()));
     }
@@ -300,14 +304,14 @@ fn evaluated<S: TreeStore>(
     let outcome = eval(alloc, store, &[], expr, &mut trace);
     drop(blocks);
     match outcome {
-        Ok(_) => done_if(trace.rows().len() == rules),
-        Err(EvalFault::Memory) => refused_if(trace.rows().is_empty()),
+        Ok(_) => done_if(trace.mark().rows == rules),
+        Err(EvalFault::Memory) => refused_if(trace.runs().is_empty()),
         Err(_) => Outcome::Wrong,
     }
 }
 
 /// The number of refusals before the expression is evaluated.
-fn refused_value<S: TreeStore>(
+pub fn refused_value<S: TreeStore>(
     rt: &impl Abort,
     alloc: Global,
     store: &S,
@@ -396,7 +400,7 @@ fn refused_clearing<S: TreeStore>(
         }
         holds(
             rt,
-            trace.rows().is_empty() && store.mark().changes == changes,
+            trace.runs().is_empty() && store.mark().changes == changes,
         );
         holds(rt, is_shown(alloc, store, before.as_str()));
     }
@@ -438,7 +442,7 @@ fn call_all<S: TreeStore>(
 fn are_same(ample: &[Trace], traces: &[Trace]) -> bool {
     let mut same = ample.len() == traces.len();
     for (one, other) in ample.iter().zip(traces) {
-        same = same && one.rows() == other.rows();
+        same = same && is_trace(one, other);
     }
     same
 }

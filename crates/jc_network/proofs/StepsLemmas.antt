@@ -23,7 +23,8 @@ use Rattle.jc_network.specs.declared.fault.StepFault.TheVariants as E
 use Rattle.jc_network.specs.declared.fault.Stuck.{Stuck}
 use Rattle.jc_network.specs.NetworkHistory.{kept_of, network_of, of_version}
 use Rattle.jc_network.specs.Laws.{starts, IsReached}
-use Rattle.jc_network.specs.Steps.{stuck_for, fault_for, IsStuckFor, sent_by, Moves, ActsReplica, HasReplicas, IsMissing, IsRefusedBy, Stops, stops_missing, stops_version, stops_refused, MakesStep, receiving_event, sender_of}
+use Rattle.jc_replica.specs.Received.{receiving_event}
+use Rattle.jc_network.specs.Steps.{stuck_for, fault_for, IsStuckFor, sent_by, Moves, ActsReplica, HasReplicas, IsMissing, IsRefusedBy, Stops, stops_missing, stops_version, stops_refused, MakesStep, sender_of}
 use Rattle.jc_network.specs.RunInvariant.{IsWell}
 use Rattle.jc_network.specs.Invariant.{IsInRun, AreNumbered}
 use Rattle.jc_network.proofs.AfterLemmas.{after_more}

@@ -4,7 +4,6 @@ use Rattle.jc_rules.specs.declared.key.Tagged.{Tagged}
 use Rattle.jc_rules.specs.declared.operation.Event.{Event}
 use Rattle.jc_rules.specs.declared.operation.Event.TheVariants as V
 use Rattle.jc_rules.specs.declared.operation.Op.{Op}
-use Rattle.jc_rules.specs.declared.id.Id.{Id}
 use Rattle.jc_rules.specs.declared.refusal.Refusal.TheVariants.{NoSuchReplica, WrongVersion}
 use Rattle.jc_rules.specs.declared.version.Version.{Version}
 use Rattle.jc_rules.specs.Refusals.{refusal_number}
@@ -90,11 +89,6 @@ pub record ActsReplica (event : Event) (old new : List ReplicaHistory)
   pub read : List Op
   pub reads : read_by event (kept_of old) ≡ Some read
   pub moves : Moves (replica_of event) event read old new result
-
--- the event in which replica p receives from q: all that it offers, or the operation with the identifier
-abbrev pub receiving_event : ℕ → Option Id → ℕ → Event
-receiving_event q None p = V.Recv p q
-receiving_event q (Some i) p = V.Take p q i
 
 -- the replica from which the event receives
 abbrev pub sender_of : Event → Option ℕ

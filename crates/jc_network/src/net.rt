@@ -15,6 +15,7 @@ ghost use Rattle.jc_network.specs.Enabled.{AreEnabled, candidates};
 ghost use Rattle.jc_network.specs.Given.{before_given, AreParts, IsBeforeGiven, IsStarted, IsGivenFault, IsUnstartedFault};
 ghost use Rattle.jc_network.specs.Steps.{IsStuckFor, HasReplica};
 ghost use Rattle.jc_network.specs.Invariant.{IsFromStart, HasBegun};
+ghost use Rattle.jc_network.specs.LastStep.{NetHasLastStep};
 ghost use Rattle.jc_rules.specs.Step.{AfterIn};
 
 use crate::applied::{applied_ids_of, applied_of};
@@ -22,7 +23,7 @@ use crate::enabled::enabled_in;
 use crate::fault::{CompareFault, StartFault, StepFault, Unstarted};
 use crate::replicas::{begin_all, replicas_of};
 use crate::stepping::make;
-use jc_replica::Replica;
+use jc_replica::{LastStep, Replica};
 use jc_rules::limits::MAX_EVENTS;
 use jc_rules::{Event, Id, Op, Text, Trace, Version};
 use jc_scenario::{Scenario, copy_names, copy_scripts};
@@ -210,6 +211,15 @@ impl Net {
         ensures begun { HasBegun self.now }
     {
         self.whose.len() as u64
+    }
+
+    /// What the last step did; nothing where there is none that can be taken back. It takes no memory.
+    pub fn last_step(&self) -> Option<LastStep<'_>>
+        ensures some { IfSome result (λ step. NetHasLastStep self.now.history step) }
+        ensures none { IfNone result (self.now.history.earlier ≡ []) }
+    {
+        let p = self.whose.last()?;
+        self.replicas[usize::from(*p)].last_step()
     }
 
     /// The replica with the number, if there is one.

@@ -5,7 +5,8 @@ ghost use Rattle.jc_rules.specs.declared.refusal.Refusal.TheVariants.{NoSuchRepl
 ghost use Rattle.jc_rules.specs.Refused.{because};
 ghost use Rattle.jc_replica.specs.Answers.{AnswersEvent, fault_cause_of};
 ghost use Rattle.jc_replica.specs.Operations.{AreInOrder, AreHanded, AreOfOne};
-ghost use Rattle.jc_network.specs.Steps.{MakesStep, ActsReplica, Moves, AllHand, AllOwn, HasReplicas, IsMissing, fault_for, stuck_for, sent_by, sender_of, receiving_event};
+ghost use Rattle.jc_replica.specs.Received.{receiving_event};
+ghost use Rattle.jc_network.specs.Steps.{MakesStep, ActsReplica, Moves, AllHand, AllOwn, HasReplicas, IsMissing, fault_for, stuck_for, sent_by, sender_of};
 ghost use Rattle.jc_network.specs.Invariant.{AreNumbered};
 
 use crate::fault::{StepFault, Stuck};

@@ -67,7 +67,7 @@ fn makes<R: Wait + Abort>(rt: &R, bench: &Bench, pass: Pass, event: Event, want:
 {
     match stepped(rt, bench, pass, event) {
         (pass, StepAnswer::Made { number, trace }) => {
-            holds(rt, number == want && !trace.rows().is_empty());
+            holds(rt, number == want && !trace.runs().is_empty());
             pass
         }
         _ => panic!(rt; "not made"),

@@ -2,7 +2,7 @@
 
 use crate::nets::{STUCK_GIVEN, YIELD, holds, scene};
 use jc_debug::{DebugFault, Debugger};
-use jc_network::Unstarted;
+use jc_network::{StartFault, Unstarted};
 use jc_rules::{Event, Rule};
 use std::alloc::Global;
 use std::process::Abort;
@@ -129,8 +129,11 @@ fn all_numbers_are_taken(rt: HostRuntime) -> Result<(), Fail> {
 /// There is no debugger where a given event is stuck.
 #[test]
 fn a_debugger_has_no_start(rt: HostRuntime) -> Result<(), Fail> {
-    let scenario = scene(rt.alloc(), STUCK_GIVEN)?;
-    match Debugger::new(rt.alloc(), scenario) {
+    match Debugger::new(rt.alloc(), scene(rt.alloc(), STUCK_GIVEN)?) {
+        Err(StartFault::Given { at, stuck }) => holds(&rt, at == 2 && stuck.number == 30),
+        _ => panic!(rt; "a start"),
+    }
+    match Debugger::of(rt.alloc(), scene(rt.alloc(), STUCK_GIVEN)?) {
         Err(Unstarted::Given { names, at, stuck }) => {
             holds(&rt, names.len() == 2 && at == 2 && stuck.number == 30)
         }

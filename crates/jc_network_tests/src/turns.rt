@@ -9,7 +9,7 @@ use crate::networks::{
     all_is_told, counts_none_given, missing_replicas, takes_100_000, takes_are_refused,
 };
 use crate::places::places_are_shown;
-use crate::undoing::there_and_back;
+use crate::undoing::{last_steps, there_and_back};
 use jc_choice::Phase;
 use jc_network::Net;
 use jc_rules::Event;
@@ -32,6 +32,8 @@ pub enum Turn<'a> {
     Choice(u16, Phase, Option<(Event, Phase)>),
     /// The events lead there and back, and there once more.
     ThereAndBack(&'a [Event]),
+    /// The last step after some events, and on the way back.
+    LastSteps,
     /// The tree that the operations of a replica mean.
     Meaning(u16, &'a str),
     /// Events at random, by a seed that each of them changes.
@@ -52,6 +54,7 @@ fn take(rt: &impl Abort, alloc: Global, net: &mut Net, turn: &Turn) -> Result<()
         Turn::Places => places_are_shown(rt, alloc, net)?,
         Turn::Choice(p, phase, want) => chooses(rt, net, *p, *phase, want),
         Turn::ThereAndBack(events) => there_and_back(rt, alloc, net, events)?,
+        Turn::LastSteps => last_steps(rt, net),
         Turn::Meaning(p, want) => is_meant_as(rt, alloc, net, *p, want)?,
         Turn::Random(seed) => have_run(rt, alloc, net, seed)?,
         Turn::HasAll => have_all(rt, alloc, net),

@@ -5,6 +5,7 @@ use crate::nets::{
 };
 use crate::turns::{Turn, in_network};
 use jc_network::Net;
+use jc_replica::LastStep;
 use jc_rules::Event;
 use std::alloc::{AllocError, Global};
 use std::process::Abort;
@@ -68,6 +69,29 @@ pub fn there_and_back(
     back_and_there(rt, alloc, net, events, before.as_slice(), last.as_str())
 }
 
+/// Whether the network's last step sent or received so many operations.
+fn has_moved(net: &Net, count: usize, is_sent: bool) -> bool {
+    match net.last_step() {
+        Some(LastStep::Sent(ops)) => is_sent && ops.len() == count,
+        Some(LastStep::Received(ids)) => !is_sent && ids.len() == count,
+        _ => false,
+    }
+}
+
+/// Each event that is made is the last step, whichever replica makes it, and on the way back the one before it is again.
+pub fn last_steps(rt: &impl Abort, net: &mut Net) {
+    holds(rt, net.last_step().is_none());
+    make(rt, net, &[Event::Exec(0), Event::Send(0)]);
+    holds(rt, has_moved(net, 1, true));
+    make(rt, net, &[Event::Recv(1, 0)]);
+    holds(rt, has_moved(net, 1, false));
+    holds(rt, net.undo() && has_moved(net, 1, true));
+    holds(rt, net.undo());
+    holds(rt, matches!(net.last_step(), Some(LastStep::Made { .. })));
+    net.begin();
+    holds(rt, net.last_step().is_none());
+}
+
 fn expect(rt: &impl Abort, alloc: Global, text: &str, events: &[Event]) -> Result<(), Fail> {
     in_network(rt, alloc, text, &[], &Turn::ThereAndBack(&*events))
 }
@@ -84,4 +108,9 @@ fn steps_are_taken_back(rt: HostRuntime) -> Result<(), Fail> {
     expect(&rt, alloc, INSERTS, MEETING)?;
     expect(&rt, alloc, PAST_THE_END, FIVE)?;
     expect_deep(&rt, alloc)
+}
+
+#[test]
+fn the_last_step_is_returned(rt: HostRuntime) -> Result<(), Fail> {
+    in_network(&rt, rt.alloc(), INSERTS, &[], &Turn::LastSteps)
 }

@@ -1,24 +1,28 @@
 -- About Found: commands on what their file was read as. `scenario_in`, `execute` and those that call them use it.
-use Rattle.std.proofs.Common.{◌≡◌, ◌≢◌, ◌⊎◌, ℕ, ◌+◌, inl, inr, List, [], Option, Some, None, Result, Ok, Err, IsErrAnd, IfOk, IfErr, refl, sym, subst}
+use Rattle.std.proofs.Common.{◌≡◌, ◌≢◌, ◌⊎◌, ◌∙◌, ℕ, ◌+◌, inl, inr, List, [], take, Option, Some, None, Result, Ok, Err, IsErrAnd, IfOk, IfErr, OnOk, String, string_bytes, refl, ap, sym, subst}
+use Rattle.std.specs.declared.alloc.Global.{Global}
 use Rattle.jc_io.specs.Streams.{IsPrefixUpTo}
-use Rattle.jc_io.specs.Written.{Stream, Sent, Written, WrittenInPart}
+use Rattle.jc_io.specs.Written.{Stream, Sent, Wrote, WrotePart, Written, WrittenInPart}
 use Rattle.jc_io.proofs.WrittenLemmas.{wrote_none}
 use Rattle.jc_io.specs.declared.io.ReadFault.{ReadFault}
 use Rattle.jc_io.specs.declared.io.ReadFault.TheVariants as I
 use Rattle.jc_parser.specs.declared.fault.ScenarioFault.{ScenarioFault}
+use Rattle.jc_parser.specs.declared.fault.ScenarioFault.TheVariants as T
+use Rattle.jc_parser.specs.Faults.{fault_refusal}
+use Rattle.jc_scenario.specs.Faults.{IsFault}
 use Rattle.jc_scenario.specs.WellFormed.{Scenario}
 use Rattle.jc_scenario.specs.Views.{scenario_view}
 use Rattle.jc_scenario.specs.declared.scenario.Scenario.{Scenario as ScenarioValue}
 use Rattle.jc_cli.specs.declared.order.View.{View}
 use Rattle.jc_cli.specs.declared.order.Task.{Task}
 use Rattle.jc_cli.specs.declared.order.Task.TheVariants.{Show, Debug, Serve, Threads, Weave}
-use Rattle.jc_program.specs.declared.run.RunFault.{RunFault}
-use Rattle.jc_program.specs.declared.run.RunFault.TheVariants as R
-use Rattle.jc_program.specs.WorkFaults.{read_fault, run_fault}
+use Rattle.jc_program.specs.declared.fault.WorkFault.{WorkFault}
+use Rattle.jc_program.specs.declared.fault.WorkFault.TheVariants.{Write, Memory}
+use Rattle.jc_program.specs.WorkFaults.{read_fault}
 use Rattle.jc_program.specs.Faults.{IsCause}
-use Rattle.jc_program.specs.ViewText.{ReadsAs, Shows, IsRefused}
+use Rattle.jc_program.specs.ViewText.{Shows, IsRefused}
 use Rattle.jc_program.specs.ViewOutput.{AreTold, IsUnfinishedOf, HasRun, IsStoppedView}
-use Rattle.jc_program.specs.Found.{found_view, IsFound}
+use Rattle.jc_program.specs.Found.{IsReadAs, IsFound}
 use Rattle.jc_program.specs.Commands.{IsAlone, ReadsTextAlone, IsDone, IsStoppedCommand}
 use Rattle.jc_program.specs.declared.recording.Recording.{Recording}
 use Rattle.jc_program.specs.ThreadRuns.{HasRecorded, IsStoppedRecording}
@@ -30,6 +34,10 @@ pub passed_on : {T E : Type 0} (r : Result T E) (x : E) (P : E → Type 0) → I
 passed_on (Ok v) x P h p = absurd h
 passed_on (Err e) x P h p = subst P (sym h) p
 
+-- and of a failed write
+pub passed_write : {T : Type 0} (r : Result T WorkFault) (x : WorkFault) (P : WorkFault → Type 0) → x ≡ Write → IsErrAnd r (λ e. e ≡ x) → P Write → IfErr r P
+passed_write r x P is h p = passed_on r x P h (subst P (sym is) p)
+
 -- what holds for all that is known of a file holds of each result
 pub if_ok_all : {T E : Type 0} (r : Result T E) (P : Option (List ℕ) → Type 0) (Q : T → Option (List ℕ) → Option (List ℕ) → Type 0) → ((told lines : Option (List ℕ)) → P told → IfOk r (λ x. Q x told lines)) → IfOk r (λ x. (told lines : Option (List ℕ)) → P told → Q x told lines)
 if_ok_all (Ok x) P Q h = λ told lines p. h told lines p
@@ -39,11 +47,21 @@ pub if_err_all : {T E : Type 0} (r : Result T E) (P : Option (List ℕ) → Type
 if_err_all (Ok x) P Q h = tt
 if_err_all (Err e) P Q h = λ told lines left p. h told lines left p
 
+-- the line for which a text is refused is that of its fault, which isn't want of memory
+pub refused_as : (bytes : List ℕ) (fault : ScenarioFault) (line : String Global) → (fault ≢ T.Memory → IsFault bytes fault) → IsRefused fault (string_bytes line) 1 → IsReadAs bytes (Err line)
+refused_as bytes fault line is refused =
+    let has_refusal : fault ≢ T.Memory = λ same. (let no : None ≡ Some refused.refusal = sym (ap fault_refusal same) ∙ refused.is in cc) in
+    (fault, is has_refusal, refused)
+
 -- what was read is a prefix of the file, and is read as the whole
-pub found_on_front : (n : ℕ) (told : Option (List ℕ)) (v w : List ℕ) (found : Result ScenarioValue ScenarioFault) → n ≡ 8388609 → IsPrefixUpTo n told v → w ≡ v → ReadsAs w (found_view found) → IsFound told found
+found_whole : (n : ℕ) (bytes v : List ℕ) (found : Result ScenarioValue (String Global)) → n ≡ 8388609 → v ≡ take n bytes → IsReadAs v found → IsReadAs bytes found
+found_whole n bytes v (Ok s) is front h = reads_whole n bytes v (Ok (scenario_view s)) is front h
+found_whole n bytes v (Err line) is front (fault, h, refused) = (fault, reads_whole n bytes v (Err fault) is front h, refused)
+
+pub found_on_front : (n : ℕ) (told : Option (List ℕ)) (v w : List ℕ) (found : Result ScenarioValue (String Global)) → n ≡ 8388609 → IsPrefixUpTo n told v → w ≡ v → IsReadAs w found → IsFound told found
 found_on_front n None v w found is front same h = (w, tt, h)
 found_on_front n (Some bytes) v w found is front same h =
-    (bytes, refl, reads_whole n bytes v (found_view found) is front (subst (λ (x : List ℕ). ReadsAs x (found_view found)) same h))
+    (bytes, refl, found_whole n bytes v found is front (subst (λ (x : List ℕ). IsReadAs x found) same h))
 
 -- the failures at a fault of the reading
 pub read_cause : (why : ReadFault) (unread : Type 0) (a b out : ℕ) → (why ≡ I.Memory → b ≡ a) → (why ≡ I.Failed → (b ≡ a + 1) ⊎ unread) → IsCause (read_fault why) unread a b out out
@@ -73,50 +91,64 @@ unread (Weave seed limit) told lines left old new why alone reads same = recordi
 
 -- ---- a refused text
 
-abbrev IsRefusedText : ScenarioFault → List ℕ → Type 0
-IsRefusedText fault text = (status : ℕ) × IsRefused fault text status
+module _ (told : Option (List ℕ)) (line : String Global) (found : IsFound told (Err line)) (old new : Stream) where
+  abbrev its_line : List ℕ
+  its_line = string_bytes line
 
-module _ (told : Option (List ℕ)) (fault : ScenarioFault) (found : IsFound told (Err fault)) (old new : Stream) where
   module _ (IsMade : Scenario → Recording → Type 0) where
     -- a sink that was left alone was sent nothing
-    pub refusal_recorded : (err_old err_new : Stream) (status : ℕ) → err_new ≡ err_old → Written (λ text. IsRefused fault text status) old new → HasRecorded IsMade told old new (λ lines. Sent lines err_old err_new) status
-    refusal_recorded err_old err_new status quiet (text, h, wrote) =
-        (found.0, found.1, ([], (text, (Err fault, found.2, (h, refl)), wrote), inl (wrote_none err_old err_new quiet)))
+    pub refusal_recorded : (err_old err_new : Stream) → err_new ≡ err_old → Wrote its_line old new → HasRecorded IsMade told old new (λ lines. Sent lines err_old err_new) 1
+    refusal_recorded err_old err_new quiet wrote =
+        let read = found.2 in
+        (found.0, found.1, ([], (its_line, (Err read.0, read.1, (read.2, refl)), wrote), inl (wrote_none err_old err_new quiet)))
 
-    pub refusal_stopped : (HasThreads : List ℕ → Type 0) (why : RunFault) → (why ≡ R.Memory → new ≡ old) → (why ≡ R.Write → WrittenInPart (IsRefusedText fault) old new) → IsStoppedRecording HasThreads IsMade (run_fault why) told old new
-    refusal_stopped HasThreads R.Memory memory write = (found.0, found.1, memory refl)
-    refusal_stopped HasThreads R.Write memory write = let h = write refl in (found.0, found.1, (h.0, ([], h.1.0, (Err fault, found.2, (h.1.1, refl))), h.2))
+    pub refusal_stopped : (HasThreads : List ℕ → Type 0) → WrotePart its_line old new → IsStoppedRecording HasThreads IsMade Write told old new
+    refusal_stopped HasThreads part =
+        let read = found.2 in
+        (found.0, found.1, (its_line, ([], 1, (Err read.0, read.1, (read.2, refl))), part))
 
-  pub refused : (task : Task) (lines : Option (List ℕ)) (err_old err_new : Stream) (status : ℕ) → IsAlone task → ReadsTextAlone task → err_new ≡ err_old → Written (λ text. IsRefused fault text status) old new → IsDone task told lines old new (λ text. Sent text err_old err_new) status
-  refused (Show view) lines err_old err_new status alone reads quiet (text, h, wrote) = (found.0, found.1, (text, (Err fault, found.2, h), wrote))
-  refused Debug lines err_old err_new status alone reads quiet h = absurd (reads.0 refl)
-  refused Serve lines err_old err_new status alone reads quiet h = absurd (reads.1 refl)
-  refused (Threads limit) lines err_old err_new status alone reads quiet h = absurd alone
-  refused (Weave seed limit) lines err_old err_new status alone reads quiet h = refusal_recorded (IsBySeed seed limit) err_old err_new status quiet h
+  pub refused : (task : Task) (lines : Option (List ℕ)) (err_old err_new : Stream) → IsAlone task → ReadsTextAlone task → err_new ≡ err_old → Wrote its_line old new → IsDone task told lines old new (λ text. Sent text err_old err_new) 1
+  refused (Show view) lines err_old err_new alone reads quiet wrote =
+      let read = found.2 in
+      (found.0, found.1, (its_line, (Err read.0, read.1, read.2), wrote))
+  refused Debug lines err_old err_new alone reads quiet wrote = absurd (reads.0 refl)
+  refused Serve lines err_old err_new alone reads quiet wrote = absurd (reads.1 refl)
+  refused (Threads limit) lines err_old err_new alone reads quiet wrote = absurd alone
+  refused (Weave seed limit) lines err_old err_new alone reads quiet wrote = refusal_recorded (IsBySeed seed limit) err_old err_new quiet wrote
 
-  view_refusal : (view : View) (why : RunFault) → (why ≡ R.Memory → new ≡ old) → (why ≡ R.Write → WrittenInPart (IsRefusedText fault) old new) → IsStoppedView view (run_fault why) told old new
-  view_refusal view R.Memory memory write = (found.0, found.1, ([], inl refl, wrote_none old new (memory refl)))
-  view_refusal view R.Write memory write = let h = write refl in (found.0, found.1, (h.0, (h.1.0, (Err fault, found.2, h.1.1)), h.2))
-
-  pub refusal_stops : (task : Task) (lines left : Option (List ℕ)) (why : RunFault) → IsAlone task → ReadsTextAlone task → (why ≡ R.Memory → new ≡ old) → (why ≡ R.Write → WrittenInPart (IsRefusedText fault) old new) → IsStoppedCommand task (run_fault why) told lines left old new
-  refusal_stops (Show view) lines left why alone reads memory write = view_refusal view why memory write
-  refusal_stops Debug lines left why alone reads memory write = absurd (reads.0 refl)
-  refusal_stops Serve lines left why alone reads memory write = absurd (reads.1 refl)
-  refusal_stops (Threads limit) lines left why alone reads memory write = absurd alone
-  refusal_stops (Weave seed limit) lines left why alone reads memory write = refusal_stopped (IsBySeed seed limit) HaveNoThreads why memory write
+  pub refusal_stops : (task : Task) (lines left : Option (List ℕ)) → IsAlone task → ReadsTextAlone task → WrotePart its_line old new → IsStoppedCommand task Write told lines left old new
+  refusal_stops (Show view) lines left alone reads part =
+      let read = found.2 in
+      (found.0, found.1, (its_line, (1, (Err read.0, read.1, read.2)), part))
+  refusal_stops Debug lines left alone reads part = absurd (reads.0 refl)
+  refusal_stops Serve lines left alone reads part = absurd (reads.1 refl)
+  refusal_stops (Threads limit) lines left alone reads part = absurd alone
+  refusal_stops (Weave seed limit) lines left alone reads part = refusal_stopped (IsBySeed seed limit) HaveNoThreads part
 
 -- ---- a view of a scenario
 
-module _ (told : Option (List ℕ)) (s : ScenarioValue) (found : IsFound told (Ok s)) (old new : Stream) (view : View) where
-  pub shown : (status : ℕ) → Written (λ text. Shows view (scenario_view s) text status) old new → HasRun view told old new status
-  shown status (text, h, wrote) = (found.0, found.1, (text, (Ok (scenario_view s), found.2, h), wrote))
+module _ (s : ScenarioValue) (old new : Stream) (view : View) where
+  -- what is written of it up to a fault
+  abbrev pub StopsShow : WorkFault → Type 0
+  StopsShow fault =
+      ((fault ≡ Memory) × Written (IsUnfinishedOf view (scenario_view s)) old new)
+      ⊎ ((fault ≡ Write) × WrittenInPart (λ text. (status : ℕ) × Shows view (scenario_view s) text status) old new)
 
-  pub show_stops : (why : RunFault) → (why ≡ R.Memory → Written (IsUnfinishedOf view (scenario_view s)) old new) → (why ≡ R.Write → WrittenInPart (λ text. (status : ℕ) × Shows view (scenario_view s) text status) old new) → IsStoppedView view (run_fault why) told old new
-  show_stops R.Memory memory write = let h = memory refl in (found.0, found.1, (h.0, inr (scenario_view s, found.2, h.1), h.2))
-  show_stops R.Write memory write = let h = write refl in (found.0, found.1, (h.0, (h.1.0, (Ok (scenario_view s), found.2, h.1.1)), h.2))
+  module _ (told : Option (List ℕ)) (found : IsFound told (Ok s)) where
+    pub shown : (status : ℕ) → Written (λ text. Shows view (scenario_view s) text status) old new → HasRun view told old new status
+    shown status (text, h, wrote) = (found.0, found.1, (text, (Ok (scenario_view s), found.2, h), wrote))
 
--- ---- failures at the fault of a run
+    pub show_stops : (fault : WorkFault) → StopsShow fault → IsStoppedView view fault told old new
+    show_stops fault (inl (is, h)) =
+        subst (λ (f : WorkFault). IsStoppedView view f told old new) (sym is) (found.0, found.1, (h.0, inr (scenario_view s, found.2, h.1), h.2))
+    show_stops fault (inr (is, h)) =
+        subst (λ (f : WorkFault). IsStoppedView view f told old new) (sym is) (found.0, found.1, (h.0, (h.1.0, (Ok (scenario_view s), found.2, h.1.1)), h.2))
 
-pub run_cause : (why : RunFault) (a b : ℕ) → (why ≡ R.Memory → b ≡ a) → (why ≡ R.Write → b ≡ a + 1) → (n : ℕ) → IsCause (run_fault why) ⊥ n n a b
-run_cause R.Memory a b memory write n = (refl, memory refl)
-run_cause R.Write a b memory write n = (refl, write refl)
+  -- the failures of its writes
+  pub show_same : (result : Result ℕ WorkFault) → IfOk result (λ status. Written (λ text. Shows view (scenario_view s) text status) old new) → OnOk result (new.failures ≡ old.failures)
+  show_same (Ok status) (text, h, wrote) = wrote.1
+  show_same (Err fault) h = tt
+
+  pub show_cause : (fault : WorkFault) → StopsShow fault → (n : ℕ) → IsCause fault ⊥ n n old.failures new.failures
+  show_cause fault (inl (is, h)) n = subst (λ (f : WorkFault). IsCause f ⊥ n n old.failures new.failures) (sym is) (refl, h.2.1)
+  show_cause fault (inr (is, h)) n = subst (λ (f : WorkFault). IsCause f ⊥ n n old.failures new.failures) (sym is) (refl, h.2.1)

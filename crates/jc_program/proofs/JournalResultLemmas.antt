@@ -1,8 +1,8 @@
 -- About JournalResult: one line, a journal that goes on by one event, and its end. `journal_next` and `journal_events`
 -- use it.
-use Rattle.std.proofs.Common.{◌≡◌, ℕ, ◌+◌, ◌<◌, List, [], ◌∷◌, ◌++◌, length, take, drop, get_or, Bool, Option, Some, None, is_some, option_copied, IfSome, true, false, refl, sym, ◌∙◌, ap, subst, append-nil, arith}
+use Rattle.std.proofs.Common.{◌≡◌, ℕ, ◌+◌, ◌<◌, List, [], ◌∷◌, ◌++◌, length, take, drop, get_or, Bool, Option, Some, None, Result, Ok, Err, is_err, is_some, option_copied, IfSome, IfOk, true, false, refl, sym, ◌∙◌, ap, subst, append-nil, arith}
 use Rattle.std.specs.Borrow.{Bor}
-use Rattle.std.proofs.lemmas.List.{take_more, take-append-drop}
+use Rattle.std.proofs.lemmas.List.{take_more}
 use Rattle.std.proofs.Math.Seq.{take-length}
 use Rattle.jc_rules.specs.declared.operation.Event.{Event}
 use Rattle.jc_rules.specs.declared.rule.Rule.{Rule}
@@ -13,21 +13,19 @@ use Rattle.jc_rules.specs.Step.{Network, StepIn}
 use Rattle.jc_rules.specs.Trace.{Rows}
 use Rattle.jc_printer.specs.Canon.{AreNamed}
 use Rattle.jc_network.specs.declared.fault.Stuck.{Stuck as StuckEvent}
-use Rattle.jc_rules.specs.History.{begun}
+use Rattle.jc_rules.specs.History.{begun, timeline}
 use Rattle.jc_network.specs.NetworkHistory.{NetworkHistory, StepsTo}
 use Rattle.jc_network.specs.Steps.{IsStuckFor, stuck_for}
 use Rattle.jc_dump.specs.Lines.{IsNamedStuck}
 use Rattle.jc_effects.specs.declared.effects.Effects.{Effects}
 use Rattle.jc_effects.specs.Difference.{Differences}
 use Rattle.jc_journal.specs.Parts.{differences_in, differences_at}
-use Rattle.jc_journal.specs.declared.before.Before.{Before}
 use Rattle.jc_journal.specs.declared.event.NumberedEvent.{NumberedEvent}
-use Rattle.jc_journal.specs.Before.{IsNoted}
-use Rattle.jc_journal.specs.EventLine.{AreEffects, event_line}
+use Rattle.jc_journal.specs.EventLine.{IsBeforeLast, AreEffects, event_line}
 use Rattle.jc_journal.specs.StuckLine.{stuck_event_line}
 use Rattle.jc_out.specs.Out.{OutState, AddsText}
 use Rattle.jc_out.proofs.OutLemmas.{adds_both}
-use Rattle.jc_program.specs.JournalResult.{asked_by, IsBehind, CatchesUp, IsLineOf, OfStuckLine, JournalsNext, JournalsAll}
+use Rattle.jc_program.specs.JournalResult.{asked_by, IsBehind, CatchesUp, IsLineOf, JournalsNext, JournalsAll}
 use Rattle.jc_program.specs.Journals.{Asked, rows_asked, IsEventLine, JournalBy, JournalOf, JournalStops}
 use Rattle.jc_program.specs.PlayResult.{Added}
 use Rattle.jc_program.specs.Runs.{Made, events_of}
@@ -36,20 +34,21 @@ use Rattle.jc_program.proofs.PlayResultLemmas.{made_count, events_of-append, spl
 
 -- ---- one line
 
-module _ (asked : Asked) (old new : NetworkHistory) (behind : Option NetworkHistory) (e : NumberedEvent) (before : Before) (noted : IsNoted e.event old.history.now.states before) (rows : Rows) (to : StepsTo old e.event new rows) (rules : Option (List (Rule × ℕ))) (are_rules : rules ≡ rows_asked asked.rules rows.rows) (told : is_some behind ≡ asked.effects) (is_behind : IsBehind behind old.history.now) where
-  own_line : (line : List ℕ) → IsLineOf new behind e before rules line → IsEventLine asked e.given old.names e.number e.event rows.rows to.step.step.before to.step.step.after line
+module _ (asked : Asked) (old new : NetworkHistory) (behind : Option NetworkHistory) (e : NumberedEvent) (rows : Rows) (to : StepsTo old e.event new rows) (rules : Option (List (Rule × ℕ))) (are_rules : rules ≡ rows_asked asked.rules rows.rows) (told : is_some behind ≡ asked.effects) (is_behind : IsBehind behind old.history.now) where
+  own_line : (line : List ℕ) → IsLineOf new behind e rules line → IsEventLine asked e.given old.names e.number e.event rows.rows to.step.step.before to.step.step.after line
   own_line line h =
       let A = to.step.step.before in
       let B = to.step.step.after in
-      let x = h old.history.now rows.rows to.step noted is_behind in (
+      let last : IsBeforeLast old.history.now new.history = record { before = old.history.earlier; earlier = to.earlier } in
+      let x = h old.history.now rows.rows last to.step is_behind in (
         x.0,
         subst (λ (b : Bool). AreEffects b e.event A B x.0) told x.1,
         x.2 ∙ (λ i. event_line (to.names i) e.given e.number e.event (are_rules i) x.0 A B),
       )
 
   -- an event that was made
-  pub event_added : (line : List ℕ) (a b : OutState) → IsLineOf new behind e before rules line → AddsText line a b → JournalsNext asked old new e a b false
-  event_added line a b h added = (rows, to, line, own_line line h, added)
+  pub event_made : (line : List ℕ) → IsLineOf new behind e rules line → JournalsNext asked old new e line false
+  event_made line h = (rows, to, own_line line h)
 
 -- ---- the network behind
 
@@ -64,28 +63,34 @@ pub told_some : (c : NetworkHistory) (e : Event) (new : Network) (x : Option Dif
 told_some c e new x h first rows made b = subst (λ (F : Network). (ls : List (Rule × ℕ)) → (s : StepIn F e new ls) → AreEffects true e s.step.before s.step.after x) b.0 h rows made
 
 -- the line of an event, with what is told of its effects
-pub line_told : (net : NetworkHistory) (behind : Option NetworkHistory) (e : NumberedEvent) (before : Before) (rules : Option (List (Rule × ℕ))) (effects : Option Effects) (r : Option (Bor Effects)) (line : List ℕ)
+pub line_told : (net : NetworkHistory) (behind : Option NetworkHistory) (e : NumberedEvent) (rules : Option (List (Rule × ℕ))) (effects : Option Effects) (r : Option (Bor Effects)) (line : List ℕ)
     → option_copied r ≡ effects
     → ((first : Network) (rows : List (Rule × ℕ)) → (made : StepIn first e.event net.history.now rows) → IsBehind behind first → AreEffects (is_some behind) e.event made.step.before made.step.after (differences_in effects))
-    → ((first : Network) (rows : List (Rule × ℕ)) → (made : StepIn first e.event net.history.now rows) → IsNoted e.event first.states before → line ≡ event_line net.names e.given e.number e.event rules (differences_at r) made.step.before made.step.after)
-    → IsLineOf net behind e before rules line
-line_told net behind e before rules effects r line same told h first rows made noted b =
-    (differences_in effects, told first rows made b, h first rows made noted ∙ ap (λ (x : Option Differences). event_line net.names e.given e.number e.event rules x made.step.before made.step.after) (told_at r ∙ ap differences_in same))
+    → ((first : Network) (rows : List (Rule × ℕ)) → IsBeforeLast first net.history → (made : StepIn first e.event net.history.now rows) → line ≡ event_line net.names e.given e.number e.event rules (differences_at r) made.step.before made.step.after)
+    → IsLineOf net behind e rules line
+line_told net behind e rules effects r line same told h first rows last made b =
+    (differences_in effects, told first rows made b, h first rows last made ∙ ap (λ (x : Option Differences). event_line net.names e.given e.number e.event rules x made.step.before made.step.after) (told_at r ∙ ap differences_in same))
 
 -- it is at the network before the event
 pub behind_made : (behind : Option NetworkHistory) (event : Event) (old new : Network) (rows : List (Rule × ℕ)) → IsBehind behind old → StepIn old event new rows → IfSome behind (λ c. (ls : List (Rule × ℕ)) × StepIn c.history.now event new ls)
 behind_made None event old new rows b s = tt
 behind_made (Some c) event old new rows b s = (rows, subst (λ (N : Network). StepIn N event new rows) (sym b.0) s)
 
-pub behind_noted : (behind : Option NetworkHistory) (event : Event) (old : Network) (before : Before) → IsBehind behind old → IsNoted event old.states before → IfSome behind (λ c. IsNoted event c.history.now.states before)
-behind_noted None event old before b n = tt
-behind_noted (Some c) event old before b n = subst (λ (N : Network). IsNoted event N.states before) (sym b.0) n
+pub behind_last : (behind : Option NetworkHistory) (old new : NetworkHistory) → IsBehind behind old.history.now → new.history.earlier ≡ timeline old.history → IfSome behind (λ c. IsBeforeLast c.history.now new.history)
+behind_last None old new b e = tt
+behind_last (Some c) old new b e = record { before = old.history.earlier; earlier = e ∙ ap (λ (N : Network). old.history.earlier ++ N ∷ []) (sym b.0) }
 
 pub behind_new : (behind : Option NetworkHistory) (old : Network) → IsBehind behind old → IfSome behind (λ c. c.history.earlier ≡ [])
 behind_new None old b = tt
 behind_new (Some c) old b = b.1
 
 -- once it has made the event it is at the network after it
+-- a network that made the event, and then keeps nothing to go back with
+pub catches_up : {E : Type 0} (event : Event) (old new after : NetworkHistory) (r : Result Rows E) → is_err r ≡ false → IfOk r (λ t. StepsTo old event new t) → after ≡ record new { history = begun new.history.now } → CatchesUp event (Some old) (Some after)
+catches_up event old new after (Ok t) e s b =
+    ((t.rows, subst (λ (n : NetworkHistory). StepIn old.history.now event n.history.now t.rows) (sym b) s.step), ap (λ (n : NetworkHistory). n.history.earlier) b)
+catches_up event old new after (Err x) e s b = let no : true ≡ false = e in cc
+
 pub caught_up : (event : Event) (behind now : Option NetworkHistory) (old new : Network) (rows : List (Rule × ℕ)) → IsBehind behind old → CatchesUp event behind now → StepIn old event new rows → IsBehind now new × (is_some now ≡ is_some behind)
 caught_up event None None old new rows b h s = (tt, refl)
 caught_up event None (Some d) old new rows b h s = absurd h
@@ -102,15 +107,6 @@ module _ (asked : Asked) (old new : NetworkHistory) (e : NumberedEvent) (s : Stu
   its_event : s.event ≡ e.event
   its_event = ap (λ (t : StuckEvent). t.event) x.is
 
-  abbrev stuck_own : List ℕ
-  stuck_own = stuck_event_line old.names e.given e.number old.history.now.states x.why e.event
-
-  of_stuck_own : (Holds : List ℕ → Type 0) → OfStuckLine new e s Holds → Holds stuck_own
-  of_stuck_own Holds h =
-      subst (λ (c : NetworkHistory). Holds (stuck_event_line c.names e.given e.number c.history.now.states x.why e.event)) same
-      (subst (λ (event : Event). Holds (stuck_event_line new.names e.given e.number new.history.now.states x.why event)) its_event
-      (h x.why (x.is ∙ ap (stuck_for x.why) (sym its_event))))
-
   -- a stuck one
   pub stuck_named : AreNamed e.event (length old.names) → IsNamedStuck new.names s
   stuck_named named = record {
@@ -120,8 +116,12 @@ module _ (asked : Asked) (old new : NetworkHistory) (e : NumberedEvent) (s : Stu
     named = subst (λ (c : NetworkHistory). AreNamed e.event (length c.names)) (sym same) named;
   }
 
-  pub stuck_added : (a b : OutState) → OfStuckLine new e s (λ line. AddsText line a b) → JournalsNext asked old new e a b true
-  stuck_added a b h = (same, x.why, x.stuck, of_stuck_own (λ line. AddsText line a b) h)
+  pub event_stuck : (line : List ℕ) → ((why : Cause) → s ≡ stuck_for why s.event → line ≡ stuck_event_line new.names e.given e.number new.history.now.states why s.event) → JournalsNext asked old new e line true
+  event_stuck line h =
+      let own = h x.why (x.is ∙ ap (stuck_for x.why) (sym its_event)) in
+      let before = ap (λ (c : NetworkHistory). stuck_event_line c.names e.given e.number c.history.now.states x.why s.event) same in
+      let its = ap (λ (event : Event). stuck_event_line old.names e.given e.number old.history.now.states x.why event) its_event in
+      (same, x.why, x.stuck, own ∙ (before ∙ its))
 
 -- ---- all events
 
@@ -177,9 +177,9 @@ module _ (asked : Asked) (given : Bool) (old now new : NetworkHistory) (es : Lis
       (x, are, is ∙ (λ j. event_line (names j) (given_is j) (n j) event (rows_asked asked.rules rows) x A B))
 
   -- it was made
-  pub line_here : (stuck : Bool) → stuck ≡ false → JournalsNext asked now new e b c stuck → LinesGoOn asked given old new es (i + 1) a c
-  line_here true none h = let f : true ≡ false = none in cc
-  line_here false none (rows, to, line, own, more) =
+  pub line_here : (line : List ℕ) (stuck : Bool) → stuck ≡ false → JournalsNext asked now new e line stuck → AddsText line b c → LinesGoOn asked given old new es (i + 1) a c
+  line_here line true none h more = let f : true ≡ false = none in cc
+  line_here line false none (rows, to, own) more =
       let names = so_far.names in
       let is = line_as e.event rows.rows to.step.step.before to.step.step.after line own in
       record {
@@ -204,18 +204,18 @@ module _ (asked : Asked) (given : Bool) (old now new : NetworkHistory) (es : Lis
   stuck_journal why stuck = journal_to asked given old.names old.history.now now.history.now es i d made text why so_far.goes so_far.taken at.inside (subst (λ (x : Event). IsStuckIn now.history.now x why) at.event stuck)
 
   -- it is stuck
-  pub line_stops : (stuck : Bool) → stuck ≡ true → JournalsNext asked now new e b c stuck → JournalsAll asked given old new es a c true
-  line_stops false some h = let f : false ≡ true = some in cc
-  line_stops true some (same, why, stuck, more) =
+  pub line_stops : (line : List ℕ) (stuck : Bool) → stuck ≡ true → JournalsNext asked now new e line stuck → AddsText line b c → JournalsAll asked given old new es a c true
+  line_stops line false some h more = let f : false ≡ true = some in cc
+  line_stops line true some (same, why, stuck, is) more =
       let network : new.history.now ≡ now.history.now = ap (λ (v : NetworkHistory). v.history.now) same in
-      let line = stuck_event_line old.names given (length made + 1) now.history.now.states why (get_or es i d) in
+      let own = stuck_event_line old.names given (length made + 1) now.history.now.states why (get_or es i d) in
       record {
         stuck = Some (get_or es i d, why);
-        text = text ++ line;
-        journal = subst (λ (N : Network). JournalOf asked given old.names old.history.now es N (Some (get_or es i d, why)) (text ++ line)) (sym network) (stuck_journal why stuck);
+        text = text ++ own;
+        journal = subst (λ (N : Network). JournalOf asked given old.names old.history.now es N (Some (get_or es i d, why)) (text ++ own)) (sym network) (stuck_journal why stuck);
         tells = refl;
         names = ap (λ (v : NetworkHistory). v.names) same ∙ so_far.names;
-        added = subst (λ (t : List ℕ). AddsText (text ++ t) a c) (stuck_is why) (adds_both a b c text _ so_far.added more);
+        added = subst (λ (t : List ℕ). AddsText (text ++ t) a c) (is ∙ stuck_is why) (adds_both a b c text line so_far.added more);
       }
 
 module _ (asked : Asked) (given : Bool) (old now : NetworkHistory) (es : List Event) (i : ℕ) (a b : OutState) (so_far : LinesGoOn asked given old now es i a b) where
@@ -244,8 +244,8 @@ module _ (asked : Asked) (given : Bool) (old now : NetworkHistory) (es : List Ev
       }
 
   -- those before a halt
-  pub lines_stand : (c : OutState) (d : Event) → i < length es → c ≡ b → Added (JournalStops asked given old.names old.history.now es) a c
-  lines_stand c d inside same = (
+  pub lines_stand : (d : Event) → i < length es → Added (JournalStops asked given old.names old.history.now es) a b
+  lines_stand d inside = (
     so_far.text,
     record {
       made = so_far.made;
@@ -255,5 +255,5 @@ module _ (asked : Asked) (given : Bool) (old now : NetworkHistory) (es : List Ev
       goes = so_far.goes;
       are_first = split_here es i so_far.made d inside so_far.taken;
     },
-    subst (λ (o : OutState). AddsText so_far.text a o) (sym same) so_far.added,
+    so_far.added,
   )

@@ -59,9 +59,10 @@ lines_split Dumps k names network = dumps_split 0 k names network
 lines_split Documents k names network = views_split 0 k names network
 
 module _ (lines : ReplicaLines) (names : List (List ℕ)) (network : List State) (p : ℕ) (a b c : OutState) (inside : p < length network) (before : AddsText (lines_text lines names (take p network)) a b) where
-  pub lines_go_on : ((A : State) → slice_get network p ≡ Some A → AddsText (replica_line lines names (name_at names p) A) b c) → AddsText (lines_text lines names (take (p + 1) network)) a c
-  lines_go_on next =
+  pub lines_go_on : (line : List ℕ) → ((A : State) → slice_get network p ≡ Some A → line ≡ replica_line lines names (name_at names p) A) → AddsText line b c → AddsText (lines_text lines names (take (p + 1) network)) a c
+  lines_go_on line is next =
       let A = get_or network p (start []) in
       let there = slice_get-get_or network p (start []) inside in
-      adds_same a c (lines_text lines names (take p network) ++ replica_line lines names (name_at names p) A) (lines_text lines names (take (p + 1) network)) (sym (lines_more lines names p network A there))
-      (adds_both a b c (lines_text lines names (take p network)) (replica_line lines names (name_at names p) A) before (next A there))
+      let text = lines_text lines names (take p network) in
+      let own = ap (λ (t : List ℕ). text ++ t) (is A there) ∙ sym (lines_more lines names p network A there) in
+      adds_same a c (text ++ line) (lines_text lines names (take (p + 1) network)) own (adds_both a b c text line before next)

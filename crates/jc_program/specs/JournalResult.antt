@@ -1,4 +1,4 @@
--- What the functions of `journal` add: their contracts cite it.
+-- What the functions of `journal` return and add: their contracts cite it.
 use Rattle.std.specs.Prelude.{◌≡◌, ℕ, List, [], Bool, true, false, Option, Some, None, is_some}
 use Rattle.jc_rules.specs.declared.operation.Event.{Event}
 use Rattle.jc_rules.specs.declared.rule.Rule.{Rule}
@@ -6,13 +6,9 @@ use Rattle.jc_rules.specs.Refused.{Cause, IsStuckIn}
 use Rattle.jc_rules.specs.Step.{Network, StepIn}
 use Rattle.jc_rules.specs.Trace.{Rows}
 use Rattle.jc_effects.specs.Difference.{Differences}
-use Rattle.jc_network.specs.declared.fault.Stuck.{Stuck as StuckEvent}
 use Rattle.jc_network.specs.NetworkHistory.{NetworkHistory, StepsTo}
-use Rattle.jc_network.specs.Steps.{stuck_for}
-use Rattle.jc_journal.specs.declared.before.Before.{Before}
 use Rattle.jc_journal.specs.declared.event.NumberedEvent.{NumberedEvent}
-use Rattle.jc_journal.specs.Before.{IsNoted}
-use Rattle.jc_journal.specs.EventLine.{AreEffects, event_line}
+use Rattle.jc_journal.specs.EventLine.{IsBeforeLast, AreEffects, event_line}
 use Rattle.jc_journal.specs.StuckLine.{stuck_event_line}
 use Rattle.jc_out.specs.Out.{OutState, AddsText}
 use Rattle.jc_program.specs.Journals.{Asked, IsEventLine, JournalOf}
@@ -38,36 +34,28 @@ CatchesUp event old new = ⊥
 
 -- ---- one line
 
--- the line of an event that led to the network, from one of which `before` was noted and at which the one behind is
+-- the line of an event that led to the network, as its last step, from one at which the one behind is
 abbrev pub IsLineOf
-    : NetworkHistory → Option NetworkHistory → NumberedEvent → Before → Option (List (Rule × ℕ)) → List ℕ → Type 0
-IsLineOf net old e before rules line =
+    : NetworkHistory → Option NetworkHistory → NumberedEvent → Option (List (Rule × ℕ)) → List ℕ → Type 0
+IsLineOf net old e rules line =
     (first : Network) (rows : List (Rule × ℕ))
+    → IsBeforeLast first net.history
     → (made : StepIn first e.event net.history.now rows)
-    → IsNoted e.event first.states before
     → IsBehind old first
     → (effects : Option Differences)
     × AreEffects (is_some old) e.event made.step.before made.step.after effects
     × (line ≡ event_line net.names e.given e.number e.event rules effects made.step.before made.step.after)
 
--- what holds of the line of an event that is stuck in the network, as a fault has it
-abbrev pub OfStuckLine : NetworkHistory → NumberedEvent → StuckEvent → (List ℕ → Type 0) → Type 0
-OfStuckLine net e s Holds =
-    (why : Cause)
-    → s ≡ stuck_for why s.event
-    → Holds (stuck_event_line net.names e.given e.number net.history.now.states why s.event)
-
 -- ---- one event
 
--- The event was made; or it is stuck, and nothing changed. Its line was added.
-abbrev pub JournalsNext : Asked → NetworkHistory → NetworkHistory → NumberedEvent → OutState → OutState → Bool → Type 0
-JournalsNext asked old new e a b false =
-    (rows : Rows) × (to : StepsTo old e.event new rows) × (line : List ℕ)
+-- The event was made; or it is stuck, and nothing changed. The line is its own.
+abbrev pub JournalsNext : Asked → NetworkHistory → NetworkHistory → NumberedEvent → List ℕ → Bool → Type 0
+JournalsNext asked old new e line false =
+    (rows : Rows) × (to : StepsTo old e.event new rows)
     × IsEventLine asked e.given old.names e.number e.event rows.rows to.step.step.before to.step.step.after line
-    × AddsText line a b
-JournalsNext asked old new e a b true =
+JournalsNext asked old new e line true =
     (new ≡ old) × (why : Cause) × IsStuckIn old.history.now e.event why
-    × AddsText (stuck_event_line old.names e.given e.number old.history.now.states why e.event) a b
+    × (line ≡ stuck_event_line old.names e.given e.number old.history.now.states why e.event)
 
 -- ---- all events
 

@@ -1,6 +1,5 @@
 pub mod WorkFaults
 pub mod Ends
-pub mod StartFaults
 pub mod Recordings
 pub mod Texts
 pub mod Runs

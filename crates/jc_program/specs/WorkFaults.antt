@@ -7,8 +7,6 @@ use Rattle.jc_io.specs.declared.io.ReadFault.{ReadFault}
 use Rattle.jc_io.specs.declared.io.ReadFault.TheVariants as reading
 use Rattle.jc_cli.specs.declared.fault.WordsFault.{WordsFault}
 use Rattle.jc_cli.specs.declared.fault.WordsFault.TheVariants as words
-use Rattle.jc_program.specs.declared.run.RunFault.{RunFault}
-use Rattle.jc_program.specs.declared.run.RunFault.TheVariants as running
 use Rattle.jc_program.specs.declared.fault.WorkFault.{WorkFault}
 use Rattle.jc_program.specs.declared.fault.WorkFault.TheVariants.{Read, Write, TooManyLines, CutShort, NoThread, Memory}
 
@@ -33,11 +31,6 @@ fault_line Memory = codes "no memory\n"
 abbrev pub read_fault : ReadFault → WorkFault
 read_fault reading.Failed = Read
 read_fault reading.Memory = Memory
-
--- the fault of a run
-abbrev pub run_fault : RunFault → WorkFault
-run_fault running.Write = Write
-run_fault running.Memory = Memory
 
 -- What is written for arguments that are no command, before and after on the output and on standard error, and the
 -- status: help on the output, unless a write fails; else on standard error why they are wrong, or that there was no

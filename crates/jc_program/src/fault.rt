@@ -4,7 +4,6 @@ ghost use Rattle.std.specs.Prelude.{◌≡◌};
 ghost use Rattle.jc_program.specs.WorkFaults.{fault_status, fault_line};
 ghost use Rattle.jc_io.specs.Written.{sink, Sent};
 
-use crate::run::RunFault;
 use crate::sending::report;
 use jc_io::{ReadFault, Sink};
 use jc_runner::SpawnRefused;
@@ -35,19 +34,6 @@ impl From<ReadFault> for WorkFault {
         match why {
             ReadFault::Failed => WorkFault::Read,
             ReadFault::Memory => WorkFault::Memory,
-        }
-    }
-}
-
-impl From<RunFault> for WorkFault {
-    ghost use Rattle.jc_program.specs.WorkFaults.{run_fault};
-
-    ghost from_gives = { λ why fault. fault ≡ run_fault why };
-
-    fn from(why: RunFault) -> Self {
-        match why {
-            RunFault::Write => WorkFault::Write,
-            RunFault::Memory => WorkFault::Memory,
         }
     }
 }

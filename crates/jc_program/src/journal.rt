@@ -8,23 +8,22 @@ ghost use Rattle.jc_rules.specs.Step.{StepIn};
 ghost use Rattle.jc_printer.specs.Canon.{AreNamed};
 ghost use Rattle.jc_scenario.specs.WellFormed.{IsWellFormedScenario};
 ghost use Rattle.jc_scenario.specs.Views.{scenario_view};
-ghost use Rattle.jc_dump.specs.Lines.{IsNamedStuck};
 ghost use Rattle.jc_network.specs.Given.{before_given};
-ghost use Rattle.jc_journal.specs.Before.{IsNoted};
+ghost use Rattle.jc_journal.specs.EventLine.{IsBeforeLast};
 ghost use Rattle.jc_journal.specs.Parts.{rows_of};
 ghost use Rattle.jc_cli.specs.declared.order.View.TheVariants as V;
-ghost use Rattle.jc_out.specs.Out.{output, AddsText};
-ghost use Rattle.jc_program.specs.JournalResult.{asked_by, IsBehind, CatchesUp, IsLineOf, OfStuckLine, JournalsNext, JournalsAll};
+ghost use Rattle.jc_out.specs.Out.{output};
+ghost use Rattle.jc_program.specs.JournalResult.{asked_by, IsBehind, CatchesUp, IsLineOf, JournalsNext, JournalsAll};
 ghost use Rattle.jc_program.specs.Journals.{rows_asked, JournalStops, IsJournalUnfinished};
 ghost use Rattle.jc_program.specs.PlayResult.{Added};
 ghost use Rattle.jc_program.specs.ViewText.{Shows};
 
 use crate::run::Halted;
 use jc_io::Sink;
-use jc_journal::{Before, NumberedEvent, event_effects, event_line, stuck_line};
-use jc_network::{Net, StepFault, Stuck};
+use jc_journal::{NumberedEvent, event_effects, event_line, stuck_line};
+use jc_network::{Net, StepFault};
 use jc_out::Out;
-use jc_rules::{Event, Rule, Trace};
+use jc_rules::{Event, Run, Trace};
 use jc_scenario::Scenario;
 use std::alloc::{AllocError, Global};
 
@@ -37,10 +36,10 @@ struct Networks {
 }
 
 /// The rules of an event, where they are asked for.
-fn rows_asked(rules: &Trace, trace: bool) -> Option<&[(Rule, u64)]>
+fn rows_asked(rules: &Trace, trace: bool) -> Option<&[Run]>
     ensures { rows_of result ≡ rows_asked trace rules.now.rows }
 {
-    if trace { Some(rules.rows()) } else { None }
+    if trace { Some(rules.runs()) } else { None }
 }
 
 /// The line of an event that led to the network, with what it changed where there is a network behind.
@@ -48,22 +47,21 @@ fn made_line(
     alloc: Global,
     networks: &Networks,
     numbered: &NumberedEvent,
-    before: &Before,
-    rules: Option<&[(Rule, u64)]>,
+    rules: Option<&[Run]>,
 ) -> Result<Vec<u8>, AllocError>
     requires named { AreNamed numbered.now.event (length networks.now.net.names) }
     requires made { IfSome networks.now.behind (λ c. (rows : List (AnyRule × ℕ))
         × StepIn c.history.now numbered.now.event networks.now.net.history.now rows) }
-    requires noted { IfSome networks.now.behind (λ c. IsNoted numbered.now.event c.history.now.states before.now) }
-    ensures { IfOk result (λ line. IsLineOf networks.now.net networks.now.behind numbered.now before.now
+    requires last { IfSome networks.now.behind (λ c. IsBeforeLast c.history.now networks.now.net.history) }
+    ensures { IfOk result (λ line. IsLineOf networks.now.net networks.now.behind numbered.now
         (rows_of rules.entry) line.items) }
 {
     let net = &networks.net;
     let effects = match &networks.behind {
-        Some(old) => event_effects(alloc, old, net, &numbered.event, before)?,
+        Some(old) => event_effects(alloc, old, net, &numbered.event)?,
         None => None,
     };
-    event_line(alloc, net, numbered, before, rules, effects.as_ref())
+    event_line(alloc, net, numbered, rules, effects.as_ref())
 }
 
 /// Executes the event in the network behind, if there is one. Nothing is kept to go back with.
@@ -80,54 +78,32 @@ fn catch_up(behind: &mut Option<Net>, event: &Event) -> Result<(), Halted>
     Ok(())
 }
 
-/// Adds the line of an event that is stuck in the network. Without memory nothing is added.
-fn add_stuck<K: Sink>(
-    alloc: Global,
-    net: &Net,
-    numbered: &NumberedEvent,
-    stuck: &Stuck,
-    out: &mut Out<'_, K>,
-) -> Result<(), Halted>
-    requires { IsNamedStuck net.now.names stuck.now }
-    ensures ok { OnOk result (OfStuckLine net.now numbered.now stuck.now
-        (λ line. AddsText line (output K.Sink out.old) (output K.Sink out.new))) }
-    ensures halted { OnErr result (out.new ≡ out.old) }
-{
-    let line = stuck_line(alloc, net, numbered.number, numbered.given, stuck)?;
-    out.pass(line.as_slice());
-    Ok(())
-}
-
-/// Executes the event and adds its line, also where it is stuck. Returns whether it is; then nothing is changed.
-/// Without memory nothing is added.
-fn journal_next<K: Sink>(
+/// Executes the event. Returns its line, also where it is stuck, and whether it is; then nothing is changed.
+fn journal_next(
     alloc: Global,
     networks: &mut Networks,
     numbered: &NumberedEvent,
     trace: bool,
-    out: &mut Out<'_, K>,
-) -> Result<bool, Halted>
+) -> Result<(Vec<u8>, bool), Halted>
     requires room { length networks.old.net.history.earlier < MAX_EVENTS }
     requires named { AreNamed numbered.now.event (length networks.old.net.names) }
     requires behind { IsBehind networks.old.behind networks.old.net.history.now }
-    ensures ok { IfOk result (JournalsNext (asked_by trace networks.old.behind) networks.old.net networks.new.net
-        numbered.now (output K.Sink out.old) (output K.Sink out.new)) }
+    ensures ok { IfOk result (λ made. JournalsNext (asked_by trace networks.old.behind) networks.old.net
+        networks.new.net numbered.now made.0.items made.1) }
     ensures behind { OnOk result (IsBehind networks.new.behind networks.new.net.history.now) }
     ensures asked { OnOk result (is_some networks.new.behind ≡ is_some networks.old.behind) }
-    ensures halted { OnErr result (out.new ≡ out.old) }
 {
-    let before = Before::of(alloc, &networks.net, &numbered.event)?;
     match networks.net.step(&numbered.event) {
         Ok(rules) => {
             let asked = rows_asked(&rules, trace);
-            let line = made_line(alloc, networks, numbered, &before, asked)?;
+            let line = made_line(alloc, networks, numbered, asked)?;
             catch_up(&mut networks.behind, &numbered.event)?;
-            out.pass(line.as_slice());
-            Ok(false)
+            Ok((line, false))
         }
         Err(StepFault::Stuck(stuck)) => {
-            add_stuck(alloc, &networks.net, numbered, &stuck, out)?;
-            Ok(true)
+            let (number, given) = (numbered.number, numbered.given);
+            let line = stuck_line(alloc, &networks.net, number, given, &stuck)?;
+            Ok((line, true))
         }
         Err(_) => Err(Halted),
     }
@@ -166,7 +142,8 @@ fn journal_events<K: Sink>(
             number,
             given,
         };
-        let is_stuck = journal_next(alloc, networks, &numbered, trace, out)?;
+        let (line, is_stuck) = journal_next(alloc, networks, &numbered, trace)?;
+        out.pass(line.as_slice());
         if is_stuck {
             return Ok(true);
         }

@@ -1,18 +1,22 @@
-//! What the file of a command has: its text, and the scenario that this is. Each command reads here.
+//! What the file of a command has: its text, and the scenario that this is, or the line for which it is refused. Each
+//! command reads here.
 
-ghost use Rattle.std.specs.Prelude.{◌≡◌, ◌≢◌, ◌+◌, ◌≤◌, ◌⊎◌, vec_len, codes, IfOk, OnOk, IsErrOf};
+ghost use Rattle.std.specs.Prelude.{◌≡◌, ◌≢◌, ◌+◌, ◌≤◌, ◌⊎◌, vec_len, codes, string_bytes, IfOk, OnOk, IsErrOf};
 ghost use Rattle.jc_io.specs.Streams.{IsPrefixUpTo, ConsumesUpTo};
 ghost use Rattle.jc_rules.specs.declared.limits.TheConstants.{MAX_TEXT};
 ghost use Rattle.jc_scenario.specs.WellFormed.{IsWellFormedScenario};
 ghost use Rattle.jc_scenario.specs.Views.{scenario_view};
 ghost use Rattle.jc_program.specs.ViewOutput.{told_by};
+ghost use Rattle.jc_program.specs.ViewText.{IsRefused};
 ghost use Rattle.jc_program.specs.Found.{IsFound};
 ghost use Rattle.jc_program.specs.Faults.{IsUnread};
 
 use crate::files::Files;
+use jc_dump::refused_text;
 use jc_io::{ReadFault, Source, read_up_to};
 use jc_rules::limits::MAX_TEXT;
 use jc_scenario::{Scenario, ScenarioFault, read};
+use std::alloc::{AllocError, Global};
 
 /// The number of bytes that are read of a text at most. By the last one a text is known to be too long.
 const MOST_READ: usize = MAX_TEXT + 1;
@@ -40,13 +44,23 @@ pub fn text_of<R: AllocGlobal + Files, I: Source>(
     }
 }
 
-/// The scenario in the file that a command names, or the fault for which its text is refused. The text is given up once
-/// it is read.
+/// The line of a refused text. Want of memory has no line.
+fn refused_line(alloc: Global, fault: &ScenarioFault) -> Result<String, AllocError>
+    ensures { IfOk result (λ line. IsRefused fault.now (string_bytes line) 1) }
+{
+    let (Some(refusal), Some(place)) = (fault.refusal(), fault.place()) else {
+        return Err(AllocError);
+    };
+    refused_text(alloc, refusal, place)
+}
+
+/// The scenario in the file that a command names, or the line for its text where this is refused. The text is given up
+/// once it is read.
 pub fn scenario_in<R: AllocGlobal + Files, I: Source>(
     rt: &R,
     file: &str,
     input: &mut I,
-) -> Result<Result<Scenario, ScenarioFault>, ReadFault>
+) -> Result<Result<Scenario, String>, ReadFault>
     ensures found { IfOk result (IsFound (told_by (I.left input.old) (R.texts rt.now) file.now)) }
     ensures formed { IfOk result (λ found. IfOk found (λ s. IsWellFormedScenario (scenario_view s))) }
     ensures most { ConsumesUpTo (MAX_TEXT + 1) (I.left input.old) (I.left input.new) }
@@ -62,10 +76,8 @@ pub fn scenario_in<R: AllocGlobal + Files, I: Source>(
     match found {
         Ok(scenario) => Ok(Ok(scenario)),
         Err(fault) => {
-            if let ScenarioFault::Memory = fault {
-                return Err(ReadFault::Memory);
-            }
-            Ok(Err(fault))
+            let line = refused_line(rt.alloc(), &fault)?;
+            Ok(Err(line))
         }
     }
 }

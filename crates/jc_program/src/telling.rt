@@ -6,8 +6,7 @@ ghost use Rattle.jc_program.specs.ThreadRuns.{outcome_status, IsTold};
 
 use crate::fault::WorkFault;
 use crate::recording::{Outcome, RecordFault, Recording};
-use crate::run::send;
-use crate::sending::report;
+use crate::sending::{report, send};
 use jc_io::Sink;
 
 fn status_of(outcome: Outcome) -> u8

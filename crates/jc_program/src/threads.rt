@@ -8,11 +8,11 @@ ghost use Rattle.jc_program.specs.ViewOutput.{told_by};
 ghost use Rattle.jc_program.specs.Faults.{IsCause, IsUnread};
 ghost use Rattle.jc_program.specs.ThreadRuns.{HaveThreaded, HaveStopped};
 
-use crate::alone::refuse;
 use crate::fault::WorkFault;
 use crate::files::Files;
 use crate::reading::scenario_in;
 use crate::recording::record;
+use crate::sending::send;
 use crate::telling::tell;
 use jc_io::{Sink, Source};
 use std::sync::Wait;
@@ -45,9 +45,9 @@ pub fn threads<R: Threads + Wait + Sync + AllocGlobal + Files, I: Source, K: Sin
     let found = scenario_in(rt, file, input)?;
     match found {
         Ok(scenario) => tell(&record(rt, rt.alloc(), scenario, limit), out, err),
-        Err(fault) => {
-            let refused = refuse(rt.alloc(), &fault, out)?;
-            Ok(refused)
+        Err(line) => {
+            send(out, line.as_str())?;
+            Ok(1)
         }
     }
 }

@@ -19,3 +19,5 @@ pub mod MayApplyLemmas
 pub mod ReceiveLemmas
 pub mod PassesLemmas
 pub mod CanLemmas
+pub mod ReceivedNewLemmas
+pub mod LastStepLemmas

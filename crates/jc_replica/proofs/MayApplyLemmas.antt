@@ -41,7 +41,7 @@ use Rattle.jc_replica.specs.Operations.{IsHanded}
 use Rattle.jc_replica.specs.ReplicaHistory.{ReplicaHistory, no_rows}
 use Rattle.jc_replica.specs.ReadyToStep.{IsReadyToStep}
 use Rattle.jc_replica.specs.Refines.{LeadsReplica}
-use Rattle.jc_replica.specs.MayApply.{TakesOp}
+use Rattle.jc_replica.specs.MayApply.{TakesOp, IsDueOp}
 use Rattle.jc_replica.specs.Undo.{Held, held_of, undone_once, state_of}
 use Rattle.jc_replica.proofs.InvariantAddLemmas.{counters_after, greatest_after, is_greatest, still_linked}
 use Rattle.jc_replica.proofs.AnswersLemmas.{Leading, ready_now}
@@ -174,8 +174,8 @@ module _ (script : List Cmd) (h : Held) (c : Context) (i : Id) (k : Op) (ready :
       let w = lowered-inserted i h.ops (greatest_of i.replica h.ops) ready.counters refl (omega (arith, above)) in
       λ n. record { done = h.done; acted = h.acted; vars = h.vars; ops = w n; queue = h.queue; sent = h.sent; recv = h.recv }
 
-  pub taken_can_back : CanBack (C.Applied i (greatest_of i.replica h.ops) h.acted) (taken_held h i)
-  taken_can_back = is_greatest i h.ops ready.counters above
+  pub taken_can_back : CanBack script (C.Applied i (greatest_of i.replica h.ops) h.acted) (taken_held h i)
+  taken_can_back = (is_greatest i h.ops ready.counters above, (k, takes.received))
 
   pub taken_ready : (d : Context) → IsChained d → ((j : Id) → j ≢ i → IsUnlinked j c → IsUnlinked j d) → IsReadyToStep (state_of script (taken_held h i) d)
   taken_ready d chained unlinked =
@@ -199,12 +199,15 @@ module _ (script : List Cmd) (h : Held) (c : Context) (i : Id) (k : Op) (ready :
 pub takes_event : (p : ℕ) (script : List Cmd) (h : Held) (c d : Context) (i : Id) (k : Op) (u v : Rows) → TakesOp (state_of script h c) i k → u ≡ opened no_rows R.ApplyRemote → Derives (Operate c k) (ToContext d) u v → Leading p (E.Apply p i) [] (state_of script h c) (state_of script (taken_held h i) d) (at_depth 0 v)
 takes_event p script h c d i k u v t ue de set os A stands own read = leads_taken set p A (state_of script h c) stands i k d os u v t ue de
 
--- the same operation, where the state is seen
-pub takes_again : (K L : State) (i : Id) (k o : Op) → TakesOp K i k → K ≡ L → op_of i L.recv ≡ Some o → TakesOp L i o
-takes_again K L i k o t e f =
-    let both : Some k ≡ Some o = sym t.received ∙ ap (λ (A : State). op_of i A.recv) e ∙ f in
-    let same : k ≡ o = cc in
-    subst (λ (x : State × Op). TakesOp x.0 i x.1) (λ n. (e n, same n)) t
+-- at a yield a due operation can be taken
+pub takes_due : (K : State) (received : List Op) (applied : List Id) (i : Id) (o : Op) (rest : List Cmd) → K.left ≡ Yield ∷ rest → K.recv ≡ received → K.ops ≡ applied → IsDueOp received applied i o → TakesOp K i o
+takes_due K received applied i o rest l recv ops due = record {
+  rest = rest;
+  yields = l;
+  received = ap (op_of i) recv ∙ due.found;
+  new = ap (has_id i) ops ∙ due.new;
+  deps = subst (AreIn o.deps) (sym ops) due.deps;
+}
 
 -- The step, where the operation's identifier was added.
 module _ {script : List Cmd} {t : Tree} {rs : List Record} {h : Held} (kept : IsReplica script t rs h) (i : Id) (k : Op) (takes : TakesOp (state_of script h t.now) i k) (ops : List Id) (added : ops ≡ union (ids_up_to k.id.replica k.id.counter) h.ops) where
@@ -213,12 +216,13 @@ module _ {script : List Cmd} {t : Tree} {rs : List Record} {h : Held} (kept : Is
       let is : ops ≡ union (ids_up_to i.replica i.counter) h.ops = added ∙ ap (λ (j : Id). union (ids_up_to j.replica j.counter) h.ops) (own script h t.now i k (ready_now kept) takes) in
       ap (λ (s : List Id). held_of h.done true h.vars s h.queue h.sent h.recv) is
 
-  pub taken_step : (u : Tree) (ss : List Record) (mark : Mark) (before : ℕ) → IsLater t u → ss ≡ rs ++ record { mark = mark; change = C.Applied i before h.acted } ∷ [] → mark.changes ≡ length t.earlier → before ≡ greatest_of i.replica h.ops → IsChained u.now → ((j : Id) → j ≢ k.id → IsUnlinked j t.now → IsUnlinked j u.now) → Stepped script t u rs ss h (held_of h.done true h.vars ops h.queue h.sent h.recv)
+  pub taken_step : (u : Tree) (ss : List Record) (mark : Mark) (before : ℕ) → IsLater t u → ss ≡ rs ++ record { mark = mark; change = C.Applied i before h.acted } ∷ [] → mark.changes ≡ length t.earlier → before ≡ greatest_of k.id.replica h.ops → IsChained u.now → ((j : Id) → j ≢ k.id → IsUnlinked j t.now → IsUnlinked j u.now) → Stepped script t u rs ss h (held_of h.done true h.vars ops h.queue h.sent h.recv)
   taken_step u ss mark before later se me be chained unlinked =
       let ready = ready_now kept in
-      let r : Record = record { mark = mark; change = C.Applied i (greatest_of i.replica h.ops) h.acted } in
-      let se2 : ss ≡ rs ++ r ∷ [] = se ∙ ap (λ (n : ℕ). rs ++ record { mark = mark; change = C.Applied i n h.acted } ∷ []) be in
       let at = own script h t.now i k ready takes in
+      let was : before ≡ greatest_of i.replica h.ops = be ∙ ap (λ (j : Id). greatest_of j.replica h.ops) at in
+      let r : Record = record { mark = mark; change = C.Applied i (greatest_of i.replica h.ops) h.acted } in
+      let se2 : ss ≡ rs ++ r ∷ [] = se ∙ ap (λ (n : ℕ). rs ++ record { mark = mark; change = C.Applied i n h.acted } ∷ []) was in
       let others : (j : Id) → j ≢ i → IsUnlinked j t.now → IsUnlinked j u.now = λ j ne. unlinked j (λ e. ne (e ∙ at)) in
       subst (λ (x : Held). Stepped script t u rs ss h x) (sym now_held)
       (stepped kept u ss r (taken_held h i) later se2 me (taken_back script h t.now i k ready takes) (taken_can_back script h t.now i k ready takes) (taken_ready script h t.now i k ready takes u.now chained others) (record { done = kept.bounds.done; sent = kept.bounds.sent }))

@@ -21,8 +21,8 @@ use Rattle.jc_vectors.specs.StoredStates.{after_making_stored}
 use Rattle.jc_replica.specs.declared.record.Change.TheVariants as C
 use Rattle.jc_replica.specs.declared.record.Record.{Record}
 use Rattle.jc_replica.specs.Answers.{Occurs}
-use Rattle.jc_replica.specs.Invariant.{CanBack, IsInBounds, IsReplica}
-use Rattle.jc_replica.specs.NextCommand.{MakesOp}
+use Rattle.jc_replica.specs.Invariant.{HasEnded, CanBack, IsInBounds, IsReplica}
+use Rattle.jc_replica.specs.NextCommand.{IsMaking, MakesOp}
 use Rattle.jc_replica.specs.ReplicaHistory.{ReplicaHistory, no_rows}
 use Rattle.jc_replica.specs.ReadyToStep.{IsReadyToStep}
 use Rattle.jc_replica.specs.Undo.{Held, held_of, undone_once, state_of, replica_history_of}
@@ -30,7 +30,7 @@ use Rattle.jc_replica.proofs.InvariantAddLemmas.{not_there, counters_after, grea
 use Rattle.jc_replica.proofs.AnswersLemmas.{Leading, ready_now, occurs}
 use Rattle.jc_replica.proofs.NextCommandSeenLemmas.{leads_made}
 use Rattle.jc_replica.proofs.QueueLemmas.{with_op-last, up_to-pushed, in_order-pushed, front}
-use Rattle.jc_replica.proofs.ScriptLemmas.{drop-more, one_less, one_more_fits}
+use Rattle.jc_replica.proofs.ScriptLemmas.{drop-more, one_less, one_more_fits, has_ended}
 use Rattle.jc_replica.proofs.UndoStepsLemmas.{Stepped, stepped}
 use Rattle.jc_rules.proofs.IdSetLemmas.{greatest_of_below}
 
@@ -49,8 +49,8 @@ module _ (script : List Cmd) (h : Held) (c : Context) (o : Op) (ready : IsReadyT
       let w = lowered-inserted o.id h.ops (greatest_of o.id.replica h.ops) ready.counters refl (omega (arith, above)) in
       λ i. record { done = d i; acted = h.acted; vars = h.vars; ops = w i; queue = q i; sent = h.sent; recv = h.recv }
 
-  pub made_can_back : h.sent ≤ length h.queue → CanBack (C.Made o.id (greatest_of o.id.replica h.ops)) (made_held h o)
-  made_can_back l = (is_greatest o.id h.ops ready.counters above, omega (arith, l, length-append h.queue (o ∷ [])))
+  pub made_can_back : h.sent ≤ length h.queue → HasEnded IsMaking script (h.done + 1) → CanBack script (C.Made o.id (greatest_of o.id.replica h.ops)) (made_held h o)
+  made_can_back l ended = (is_greatest o.id h.ops ready.counters above, omega (arith, l, length-append h.queue (o ∷ [])), ended)
 
   module _ (x : Cmd) (rest : List Cmd) (left : drop h.done script ≡ x ∷ rest) where
     pub made_ready : (d : Context) → IsChained d → ((j : Id) → j ≢ o.id → IsUnlinked j c → IsUnlinked j d) → IsReadyToStep (state_of script (made_held h o) d)
@@ -114,7 +114,8 @@ module _ {script : List Cmd} {t : Tree} {rs : List Record} {h : Held} (k : IsRep
     made_step =
         let r : Record = record { mark = mark; change = C.Made o.id before } in
         let back_is : undone_once r.change (made_held h o) ≡ h = ap (λ (n : ℕ). undone_once (C.Made o.id n) (made_held h o)) be ∙ made_back script h t.now o ready new in
-        let can : CanBack r.change (made_held h o) = subst (λ (n : ℕ). CanBack (C.Made o.id n) (made_held h o)) (sym be) (made_can_back script h t.now o ready new k.bounds.sent) in
+        let ended = has_ended IsMaking h.done script m.next.command m.next.rest m.next.next m.next.makes in
+        let can : CanBack script r.change (made_held h o) = subst (λ (n : ℕ). CanBack script (C.Made o.id n) (made_held h o)) (sym be) (made_can_back script h t.now o ready new k.bounds.sent ended) in
         let bounds : IsInBounds script (made_held h o) = record { done = one_more_fits h.done script m.next.command m.next.rest m.next.next; sent = omega (arith, k.bounds.sent, length-append h.queue (o ∷ [])) } in
         subst (λ (x : Held). Stepped script t d rs ss h x) (sym he) (stepped k d ss r (made_held h o) later se me back_is can (made_ready script h t.now o ready new m.next.command m.next.rest m.next.next d.now chained unlinked) bounds)
 

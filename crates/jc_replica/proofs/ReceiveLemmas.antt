@@ -1,12 +1,13 @@
 -- Lemmas about Received: operations are received, from what is held before to what is held after.
-use Rattle.std.proofs.Common.{◌≡◌, ℕ, List, [], ◌∷◌, ◌++◌, length, map, Option, Some, None, IfSome, unwrap_or, option_copied, Bor, true, refl, sym, ◌∙◌, ap, subst}
+use Rattle.std.proofs.Common.{◌≡◌, ℕ, List, [], ◌∷◌, ◌++◌, length, map, filter, Option, Some, None, IfSome, unwrap_or, option_copied, option_map, Bor, true, refl, sym, ◌∙◌, ap, subst}
+use Rattle.std.proofs.lemmas.Option.{same_Some}
 use Rattle.jc_rules.specs.declared.id.Id.{Id}
 use Rattle.jc_rules.specs.declared.operation.Event.TheVariants as E
 use Rattle.jc_rules.specs.declared.operation.Op.{Op}
 use Rattle.jc_rules.specs.declared.refusal.Refusal.TheVariants as F
 use Rattle.jc_rules.specs.declared.rule.Rule.TheVariants as R
 use Rattle.jc_rules.specs.Derivation.{Occur, ToState}
-use Rattle.jc_rules.specs.Refused.{because, not_offered}
+use Rattle.jc_rules.specs.Refused.{because, not_offered, IsYieldEvent}
 use Rattle.jc_rules.specs.State.{State}
 use Rattle.jc_rules.specs.Syntax.{Cmd, Yield}
 use Rattle.jc_rules.specs.Table.{both, op_of}
@@ -20,11 +21,11 @@ use Rattle.jc_tree.specs.Tree.{Tree}
 use Rattle.jc_replica.specs.declared.record.Record.{Record}
 use Rattle.jc_replica.specs.Answers.{RefusedFor, Occurs}
 use Rattle.jc_replica.specs.Invariant.{IsReplica, CanBack}
-use Rattle.jc_replica.specs.Operations.{AreInOrder, IsHanded, AreHanded}
+use Rattle.jc_replica.specs.Operations.{identifiers, AreInOrder, IsHanded, AreHanded}
 use Rattle.jc_replica.specs.ReplicaHistory.{ReplicaHistory, no_rows}
-use Rattle.jc_replica.specs.Received.{AreKeptOf, IsUnited, HasReceived}
+use Rattle.jc_replica.specs.Received.{is_new, receiving_event, receiving_rule, read_of, AreKeptOf, IsUnited, HasReceived}
 use Rattle.jc_replica.specs.Refines.{IsRead, LeadsReplica}
-use Rattle.jc_replica.specs.Undo.{Held, held_of, undone_once, replica_history_of}
+use Rattle.jc_replica.specs.Undo.{Held, held_of, undone_once, replica_history_of, without_ops}
 use Rattle.jc_replica.proofs.AnswersLemmas.{ready_now}
 use Rattle.jc_replica.proofs.RefinesLemmas.{left_seen}
 use Rattle.jc_replica.proofs.UndoStepsLemmas.{Stepped, stepped}
@@ -103,10 +104,57 @@ takes q i read k old new rest rows h found l re = record {
 pub one_handed : (i : Id) (os : List Op) (k : Op) → op_of i os ≡ Some k → AreHanded os → AreHanded (k ∷ [])
 one_handed i os k found h = (found_in IsHanded i os k h found, tt)
 
+-- the one operation that is read
+record IsOneRead (i : Id) (os read : List Op) : Type 0 where
+  operation : Op
+  found : op_of i os ≡ Some operation
+  is : read ≡ operation ∷ []
+
+one_read : (i : Id) (os read : List Op) → read_of (Some i) os ≡ Some read → IsOneRead i os read
+one_read i os read e = go (op_of i os) refl e
+  where
+    go : (o : Option Op) → op_of i os ≡ o → option_map (λ (x : Op). x ∷ []) o ≡ Some read → IsOneRead i os read
+    go None f g = cc
+    go (Some k) f g = record { operation = k; found = f; is = sym (same_Some (k ∷ []) read g) }
+
+-- what is read was handed as all were
+pub read_handed : (id : Option Id) (os read : List Op) → read_of id os ≡ Some read → AreHanded os → AreHanded read
+read_handed None os read e h = subst AreHanded (same_Some os read e) h
+read_handed (Some i) os read e h = let x = one_read i os read e in subst AreHanded (sym x.is) (one_handed i os x.operation x.found h)
+
+-- and in order
+pub read_order : (id : Option Id) (os read : List Op) → read_of id os ≡ Some read → AreInOrder os → AreInOrder read
+read_order None os read e h = subst AreInOrder (same_Some os read e) h
+read_order (Some i) os read e h = let x = one_read i os read e in subst AreInOrder (sym x.is) (tt, tt)
+
+-- the event, by what was read
+pub receives_read : (id : Option Id) (q : ℕ) (os read : List Op) (old new : ReplicaHistory) (rest : List Cmd) (rows : Rows) → HasReceived read old new → read_of id os ≡ Some read → old.history.now.left ≡ Yield ∷ rest → rows ≡ pushed no_rows (receiving_rule id) → Occurs (receiving_event q id old.number) os old new rows
+receives_read None q os read old new rest rows h e l re =
+    let all : HasReceived os old new = subst (λ (xs : List Op). HasReceived xs old new) (sym (same_Some os read e)) h in
+    receives q os old new rest rows all l re
+receives_read (Some i) q os read old new rest rows h e l re =
+    let x = one_read i os read e in
+    let one : HasReceived (x.operation ∷ []) old new = subst (λ (xs : List Op). HasReceived xs old new) x.is h in
+    takes q i os x.operation old new rest rows one x.found l re
+
 -- why one isn't taken in
 pub refused_take : (now : ReplicaHistory) (q : ℕ) (i : Id) (read : List Op) (rest : List Cmd) → now.history.now.left ≡ Yield ∷ rest → op_of i read ≡ None → RefusedFor (E.Take now.number q i) read now (because F.NotReceived)
 refused_take now q i read rest l none = λ set os A stands of.
     not_offered (left_seen set A now.history.now stands ∙ l) (kept_absent i os (ap (op_of i) (sym of.is) ∙ none))
+
+-- so nothing is read
+pub refused_read : (now : ReplicaHistory) (q : ℕ) (id : Option Id) (os : List Op) (rest : List Cmd) → now.history.now.left ≡ Yield ∷ rest → read_of id os ≡ None → RefusedFor (receiving_event q id now.number) os now (because F.NotReceived)
+refused_read now q None os rest l none = cc
+refused_read now q (Some i) os rest l none = go (op_of i os) refl none
+  where
+    go : (o : Option Op) → op_of i os ≡ o → option_map (λ x. x ∷ []) o ≡ None → RefusedFor (E.Take now.number q i) os now (because F.NotReceived)
+    go None f g = refused_take now q i os rest l f
+    go (Some k) f g = cc
+
+-- a yield event
+pub is_receiving : (q p : ℕ) (id : Option Id) → IsYieldEvent (receiving_event q id p)
+is_receiving q p None = tt
+is_receiving q p (Some i) = tt
 
 -- what is handed, or else one's own
 pub offered_now : (o : Option (Bor (List Op))) (own : Bor (List Op)) → (unwrap_or o own).now ≡ unwrap_or (option_copied o) own.now
@@ -121,13 +169,17 @@ offered_order (Some x) own h g = h
 abbrev pub received_held : Held → List Op → Held
 received_held h new = held_of h.done true h.vars h.ops h.queue h.sent new
 
+-- what came is what is there now and wasn't before
+pub came_again : (ids : List Id) (old new : List Op) → without_ops ids new ≡ old → identifiers (filter (is_new old) new) ≡ ids → identifiers (filter (is_new (without_ops ids new)) new) ≡ ids
+came_again ids old new back came = ap (λ (os : List Op). identifiers (filter (is_new os) new)) back ∙ came
+
 -- what was received, by what was seen before it
 pub has_received : {script : List Cmd} {t : Tree} {rs : List Record} {h : Held} (number : ℕ) (p : ReplicaHistory) → replica_history_of number script t rs h ≡ p → (read new : List Op) (ss : List Record) → IsUnited h.recv read new → Stepped script t t rs ss h (received_held h new) → HasReceived read p (replica_history_of number script t ss (received_held h new))
 has_received {script} {t} {rs} {h} number p v read new ss united s =
     subst (λ (x : ReplicaHistory). HasReceived read x (replica_history_of number script t ss (received_held h new))) v
     (record { united = united; now = refl; earlier = s.earlier; number = refl })
 
-pub received_step : {script : List Cmd} {t : Tree} {rs : List Record} {h : Held} → IsReplica script t rs h → (new : List Op) (ss : List Record) (r : Record) → ss ≡ rs ++ r ∷ [] → r.mark.changes ≡ length t.earlier → undone_once r.change (received_held h new) ≡ h → CanBack r.change (received_held h new) → AreInOrder new → AreHanded new → Stepped script t t rs ss h (received_held h new)
+pub received_step : {script : List Cmd} {t : Tree} {rs : List Record} {h : Held} → IsReplica script t rs h → (new : List Op) (ss : List Record) (r : Record) → ss ≡ rs ++ r ∷ [] → r.mark.changes ≡ length t.earlier → undone_once r.change (received_held h new) ≡ h → CanBack script r.change (received_held h new) → AreInOrder new → AreHanded new → Stepped script t t rs ss h (received_held h new)
 received_step {script} {t} {rs} {h} kept new ss r se me be cb order handed =
     let a = ready_now kept in
     stepped kept t ss r (received_held h new) (still t) se me be cb

@@ -5,6 +5,7 @@ use Rattle.std.proofs.lemmas.Option.{slice_get_past, slice_get_read}
 use Rattle.jc_rules.specs.Syntax.{Cmd}
 use Rattle.jc_syntax.specs.declared.tree.Cmd.{Cmd as CmdTree}
 use Rattle.jc_syntax.specs.Trees.{cmd_of}
+use Rattle.jc_replica.specs.Invariant.{HasEnded}
 
 -- one command less
 pub drop-more : (n : ℕ) (xs : List Cmd) (x : Cmd) (rest : List Cmd) → drop n xs ≡ x ∷ rest → drop (n + 1) xs ≡ rest
@@ -22,10 +23,28 @@ one_more_fits zero (y ∷ ys) x rest e = omega arith
 one_more_fits (suc n) [] x rest e = cc
 one_more_fits (suc n) (y ∷ ys) x rest e = omega (arith, one_more_fits n ys x rest e)
 
+-- the command that was next is the last one that has ended
+pub has_ended : (P : Cmd → Type 0) (n : ℕ) (xs : List Cmd) (x : Cmd) (rest : List Cmd) → drop n xs ≡ x ∷ rest → P x → HasEnded P xs (n + 1)
+has_ended P n xs x rest e p =
+    let back : n + 1 - 1 ≡ n = omega arith in
+    record {
+      command = x;
+      left = ap (λ (m : ℕ). drop m xs) back ∙ e ∙ ap (λ (ys : List Cmd). x ∷ ys) (sym (drop-more n xs x rest e));
+      is = p;
+    }
+
+-- so one has ended
+pub some_ended : (n : ℕ) (xs : List Cmd) (x : Cmd) → drop (n - 1) xs ≡ x ∷ drop n xs → 0 < n
+some_ended zero xs x e = absurd (let l = ap length e in omega (arith, l))
+some_ended (suc n) xs x e = omega arith
+
+pub ended_fits : (n : ℕ) (xs : List Cmd) (x : Cmd) → drop (n - 1) xs ≡ x ∷ drop n xs → n ≤ length xs
+ended_fits n xs x e = omega (arith, one_more_fits (n - 1) xs x (drop n xs) e)
+
 pub one_less : (n : ℕ) (xs : List Cmd) (x : Cmd) (rest : List Cmd) → drop n xs ≡ x ∷ rest → length (drop (n + 1) xs) + 1 ≡ length (drop n xs)
 one_less n xs x rest e = ap (λ (y : List Cmd). length y + 1) (drop-more n xs x rest e) ∙ add-one (length rest) ∙ sym (ap length e)
 
-stands : (n : ℕ) (xs : List CmdTree) (x : CmdTree) → slice_get xs n ≡ Some x → drop n (map cmd_of xs) ≡ cmd_of x ∷ drop (suc n) (map cmd_of xs)
+pub stands : (n : ℕ) (xs : List CmdTree) (x : CmdTree) → slice_get xs n ≡ Some x → drop n (map cmd_of xs) ≡ cmd_of x ∷ drop (suc n) (map cmd_of xs)
 stands zero [] x e = cc
 stands zero (y ∷ ys) x e = let s : y ≡ x = cc in ap (λ (z : CmdTree). cmd_of z ∷ map cmd_of ys) s
 stands (suc n) [] x e = cc

@@ -11,14 +11,14 @@ use Rattle.jc_replica.specs.Undo.{Held, undone_once, states}
 use Rattle.jc_replica.proofs.UndoStepsLemmas.{Unstepped, unstepped, can_back}
 
 -- what can be taken back leaves the bounds
-back_in_bounds : (script : List Cmd) (c : Change) (h : Held) → IsInBounds script h → CanBack c h → IsInBounds script (undone_once c h)
+back_in_bounds : (script : List Cmd) (c : Change) (h : Held) → IsInBounds script h → CanBack script c h → IsInBounds script (undone_once c h)
 back_in_bounds script (C.Bound name before) h b can = record { done = omega (arith, b.done); sent = b.sent }
 back_in_bounds script (C.Made i before) h b can =
     record {
       done = omega (arith, b.done);
       sent = omega (arith, can.1, length-take-le (length h.queue - 1) h.queue (omega arith));
     }
-back_in_bounds script (C.Sent sent acted) h b can = record { done = b.done; sent = can }
+back_in_bounds script (C.Sent sent acted) h b can = record { done = b.done; sent = omega (arith, can, b.sent) }
 back_in_bounds script (C.Received came acted) h b can = record { done = b.done; sent = b.sent }
 back_in_bounds script (C.Applied i before acted) h b can = record { done = b.done; sent = b.sent }
 back_in_bounds script C.Ended h b can = record { done = omega (arith, b.done); sent = b.sent }
@@ -28,8 +28,8 @@ unstep {script} {t} {ss} {h} k u rs r h0 se ue be =
     unstepped k u rs r h0 se ue be (subst (IsInBounds script) be (back_in_bounds script r.change h k.bounds (can_back k rs r se)))
 
 -- what is asked of the last step, as it is
-pub can_back_as : {script : List Cmd} {t : Tree} {ss : List Record} {h : Held} → IsReplica script t ss h → (rs : List Record) (r : Record) → ss ≡ rs ++ r ∷ [] → (c : Change) → r.change ≡ c → CanBack c h
-can_back_as {script} {t} {ss} {h} k rs r se c ce = subst (λ (x : Change). CanBack x h) ce (can_back k rs r se)
+pub can_back_as : {script : List Cmd} {t : Tree} {ss : List Record} {h : Held} → IsReplica script t ss h → (rs : List Record) (r : Record) → ss ≡ rs ++ r ∷ [] → (c : Change) → r.change ≡ c → CanBack script c h
+can_back_as {script} {t} {ss} {h} k rs r se c ce = subst (λ (x : Change). CanBack script x h) ce (can_back k rs r se)
 
 -- without a step
 pub no_earlier : (script : List Cmd) (t : Tree) (ss : List Record) (h : Held) → ss ≡ [] → states script (timeline t) ss h ≡ []

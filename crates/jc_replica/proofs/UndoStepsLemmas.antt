@@ -16,7 +16,7 @@ undone-pushed : (rs : List Record) (r : Record) (h h2 : Held) → undone_once r.
 undone-pushed [] r h h2 e = e
 undone-pushed (s ∷ rs) r h h2 e = ap (undone_once s.change) (undone-pushed rs r h h2 e)
 
-states-pushed : (script : List Cmd) (contents : List Context) (rs : List Record) (r : Record) (h h2 : Held) → undone_once r.change h2 ≡ h → states script contents (rs ++ r ∷ []) h2 ≡ states script contents rs h ++ state_of script h (content_at contents r.mark.changes) ∷ []
+pub states-pushed : (script : List Cmd) (contents : List Context) (rs : List Record) (r : Record) (h h2 : Held) → undone_once r.change h2 ≡ h → states script contents (rs ++ r ∷ []) h2 ≡ states script contents rs h ++ state_of script h (content_at contents r.mark.changes) ∷ []
 states-pushed script contents [] r h h2 e = ap (λ (x : Held). state_of script x (content_at contents r.mark.changes) ∷ []) e
 states-pushed script contents (s ∷ rs) r h h2 e =
     ap (λ (x : Held). state_of script (undone_once s.change x) (content_at contents s.mark.changes) ∷ states script contents (rs ++ r ∷ []) h2) (undone-pushed rs r h h2 e)
@@ -51,17 +51,17 @@ marks-pushed n m [] r h e l = (tt, omega (arith, e, l), tt)
 marks-pushed n m (s ∷ rs) r h e l =
     (all_pushed (λ (x : Record). s.mark.changes ≤ x.mark.changes) rs r h.0 (omega (arith, h.1, e)), omega (arith, h.1, l), marks-pushed n m rs r h.2 e l)
 
-backs-pushed : (rs : List Record) (r : Record) (h h2 : Held) → AreBacks rs h → undone_once r.change h2 ≡ h → CanBack r.change h2 → AreBacks (rs ++ r ∷ []) h2
-backs-pushed [] r h h2 a e b = (b, tt)
-backs-pushed (s ∷ rs) r h h2 a e b =
-    (subst (λ (x : Held). CanBack s.change x) (sym (undone-pushed rs r h h2 e)) a.0, backs-pushed rs r h h2 a.1 e b)
+backs-pushed : (script : List Cmd) (rs : List Record) (r : Record) (h h2 : Held) → AreBacks script rs h → undone_once r.change h2 ≡ h → CanBack script r.change h2 → AreBacks script (rs ++ r ∷ []) h2
+backs-pushed script [] r h h2 a e b = (b, tt)
+backs-pushed script (s ∷ rs) r h h2 a e b =
+    (subst (λ (x : Held). CanBack script s.change x) (sym (undone-pushed rs r h h2 e)) a.0, backs-pushed script rs r h h2 a.1 e b)
 
 -- A step keeps the old states and the one before it.
 pub record Stepped (script : List Cmd) (t u : Tree) (rs ss : List Record) (h h2 : Held) : Type 0 where
   pub earlier : states script (timeline u) ss h2 ≡ states script (timeline t) rs h ++ state_of script h t.now ∷ []
   pub kept : IsReplica script u ss h2
 
-pub stepped : {script : List Cmd} {t : Tree} {rs : List Record} {h : Held} → IsReplica script t rs h → (u : Tree) (ss : List Record) (r : Record) (h2 : Held) → IsLater t u → ss ≡ rs ++ r ∷ [] → r.mark.changes ≡ length t.earlier → undone_once r.change h2 ≡ h → CanBack r.change h2 → IsReadyToStep (state_of script h2 u.now) → IsInBounds script h2 → Stepped script t u rs ss h h2
+pub stepped : {script : List Cmd} {t : Tree} {rs : List Record} {h : Held} → IsReplica script t rs h → (u : Tree) (ss : List Record) (r : Record) (h2 : Held) → IsLater t u → ss ≡ rs ++ r ∷ [] → r.mark.changes ≡ length t.earlier → undone_once r.change h2 ≡ h → CanBack script r.change h2 → IsReadyToStep (state_of script h2 u.now) → IsInBounds script h2 → Stepped script t u rs ss h h2
 stepped {script} {t} {rs} {h} k u ss r h2 later se me be cb ready bounds =
     let there : length t.earlier < length (timeline t) = omega (arith, length-append t.earlier (t.now ∷ [])) in
     let longer : length t.earlier ≤ length u.earlier = omega (arith, ap length later.is, length-append t.earlier (t.now ∷ []), length-append u.earlier (u.now ∷ []), length-append (timeline t) later.added) in
@@ -77,7 +77,7 @@ stepped {script} {t} {rs} {h} k u ss r h2 later se me be cb ready bounds =
         ready = all_pushed IsReadyToStep _ _ (subst AreReady (sym earlier) k.ready) ready;
         bounds = bounds;
         marks = marks-pushed (length t.earlier) (length u.earlier) rs r k.marks me longer;
-        backs = backs-pushed rs r h h2 k.backs be cb;
+        backs = backs-pushed script rs r h h2 k.backs be cb;
       };
     })
 
@@ -96,21 +96,21 @@ marks_left n (s ∷ rs) r h =
     last [] a = a.0
     last (x ∷ xs) a = last xs a.1
 
-backs_left : (rs : List Record) (r : Record) (h h0 : Held) → AreBacks (rs ++ r ∷ []) h → undone_once r.change h ≡ h0 → AreBacks rs h0
-backs_left [] r h h0 a e = tt
-backs_left (s ∷ rs) r h h0 a e =
-    (subst (λ (x : Held). CanBack s.change x) (undone-pushed rs r h0 h e) a.0, backs_left rs r h h0 a.1 e)
+backs_left : (script : List Cmd) (rs : List Record) (r : Record) (h h0 : Held) → AreBacks script (rs ++ r ∷ []) h → undone_once r.change h ≡ h0 → AreBacks script rs h0
+backs_left script [] r h h0 a e = tt
+backs_left script (s ∷ rs) r h h0 a e =
+    (subst (λ (x : Held). CanBack script s.change x) (undone-pushed rs r h0 h e) a.0, backs_left script rs r h h0 a.1 e)
 
-last_back : (rs : List Record) (r : Record) (h : Held) → AreBacks (rs ++ r ∷ []) h → CanBack r.change h
-last_back [] r h a = a.0
-last_back (s ∷ rs) r h a = last_back rs r h a.1
+last_back : (script : List Cmd) (rs : List Record) (r : Record) (h : Held) → AreBacks script (rs ++ r ∷ []) h → CanBack script r.change h
+last_back script [] r h a = a.0
+last_back script (s ∷ rs) r h a = last_back script rs r h a.1
 
 -- what the last record knows of the store and of what is held
 pub mark_there : {script : List Cmd} {t : Tree} {ss : List Record} {h : Held} → IsReplica script t ss h → (rs : List Record) (r : Record) → ss ≡ rs ++ r ∷ [] → r.mark.changes ≤ length t.earlier
 mark_there {script} {t} {ss} {h} k rs r e = (marks_left (length t.earlier) rs r (subst (AreMarks (length t.earlier)) e k.marks)).1
 
-pub can_back : {script : List Cmd} {t : Tree} {ss : List Record} {h : Held} → IsReplica script t ss h → (rs : List Record) (r : Record) → ss ≡ rs ++ r ∷ [] → CanBack r.change h
-can_back {script} {t} {ss} {h} k rs r e = last_back rs r h (subst (λ (x : List Record). AreBacks x h) e k.backs)
+pub can_back : {script : List Cmd} {t : Tree} {ss : List Record} {h : Held} → IsReplica script t ss h → (rs : List Record) (r : Record) → ss ≡ rs ++ r ∷ [] → CanBack script r.change h
+can_back {script} {t} {ss} {h} k rs r e = last_back script rs r h (subst (λ (x : List Record). AreBacks script x h) e k.backs)
 
 content-front : (cs : List Context) (n : ℕ) → n < length cs → content_at (take (suc n) cs) n ≡ content_at cs n
 content-front [] n h = absurd (omega (arith, h))
@@ -159,6 +159,6 @@ unstepped {script} {t} {ss} {h} k u rs r h0 se ue be bounds =
         ready = subst AreReady (sym all) (all_front IsReadyToStep _ _ k.ready);
         bounds = bounds;
         marks = subst (λ (x : ℕ). AreMarks x rs) (sym size) m.0;
-        backs = backs_left rs r h h0 (subst (λ (x : List Record). AreBacks x h) se k.backs) be;
+        backs = backs_left script rs r h h0 (subst (λ (x : List Record). AreBacks script x h) se k.backs) be;
       };
     }

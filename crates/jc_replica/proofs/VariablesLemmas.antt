@@ -19,13 +19,13 @@ use Rattle.jc_replica.specs.declared.record.Record.{Record}
 use Rattle.jc_replica.specs.Answers.{Occurs}
 use Rattle.jc_replica.specs.Variables.{IsBound}
 use Rattle.jc_replica.specs.Invariant.{IsInBounds, IsReplica}
-use Rattle.jc_replica.specs.NextCommand.{Binds}
+use Rattle.jc_replica.specs.NextCommand.{IsLet, Binds}
 use Rattle.jc_replica.specs.ReplicaHistory.{ReplicaHistory, no_rows}
 use Rattle.jc_replica.specs.ReadyToStep.{IsReadyToStep}
 use Rattle.jc_replica.specs.Undo.{Held, held_of, undone_once, state_of, replica_history_of, was_bound}
 use Rattle.jc_replica.proofs.VariablesSeenLemmas.{leads_bound}
 use Rattle.jc_replica.proofs.AnswersLemmas.{Leading, ready_now, occurs}
-use Rattle.jc_replica.proofs.ScriptLemmas.{drop-more, one_less, one_more_fits}
+use Rattle.jc_replica.proofs.ScriptLemmas.{drop-more, one_less, one_more_fits, has_ended}
 use Rattle.jc_replica.proofs.UndoStepsLemmas.{Stepped, stepped}
 use Rattle.jc_rules.proofs.HistoryLemmas.{still}
 
@@ -70,7 +70,7 @@ module _ {script : List Cmd} {t : Tree} {rs : List Record} {h : Held} (k : IsRep
   bound_step =
       let r : Record = record { mark = mark; change = C.Bound x before } in
       let bounds : IsInBounds script (bound_held h vars) = record { done = one_more_fits h.done script _ m.next.rest m.next.next; sent = k.bounds.sent } in
-      subst (λ (y : Held). Stepped script t t rs ss h y) (sym he) (stepped k t ss r (bound_held h vars) (still t) se me (bound_back script h vars x b before is) tt (bound_ready script h vars x b before is t.now (ready_now k) _ m.next.rest m.next.next) bounds)
+      subst (λ (y : Held). Stepped script t t rs ss h y) (sym he) (stepped k t ss r (bound_held h vars) (still t) se me (bound_back script h vars x b before is) (has_ended IsLet h.done script _ m.next.rest m.next.next tt) (bound_ready script h vars x b before is t.now (ready_now k) _ m.next.rest m.next.next) bounds)
 
   pub bound_kept_replica : IsReplica script t ss h2
   bound_kept_replica = bound_step.kept

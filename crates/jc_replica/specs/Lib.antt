@@ -12,3 +12,4 @@ pub mod Can
 pub mod Received
 pub mod MayApply
 pub mod OpLists
+pub mod LastStep

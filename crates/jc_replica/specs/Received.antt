@@ -1,8 +1,12 @@
 -- Lists of received operations, and up to which counter a sender's operations are complete in them.
-use Rattle.std.specs.Prelude.{◌≡◌, ◌≤◌, ◌<◌, ℕ, Bool, true, List, length, insert, not, slice_get, Some, None, Result, Ok, Err}
+use Rattle.std.specs.Prelude.{◌≡◌, ◌≤◌, ◌<◌, ℕ, Bool, true, List, [], ◌∷◌, length, insert, not, slice_get, Option, Some, None, option_map, Result, Ok, Err}
 use Rattle.std.specs.List.{AllByRecursion}
 use Rattle.jc_rules.specs.declared.id.Id.{Id}
+use Rattle.jc_rules.specs.declared.operation.Event.{Event}
+use Rattle.jc_rules.specs.declared.operation.Event.TheVariants as E
 use Rattle.jc_rules.specs.declared.operation.Op.{Op}
+use Rattle.jc_rules.specs.declared.rule.Rule.{Rule}
+use Rattle.jc_rules.specs.declared.rule.Rule.TheVariants as R
 use Rattle.jc_rules.specs.VersionVectors.{covered, greatest_of}
 use Rattle.jc_rules.specs.Ids.{has_id}
 use Rattle.jc_rules.specs.Sound.{IsSound}
@@ -40,6 +44,20 @@ AreKeptOf set os = AllByRecursion (λ k. (o : Op) × (op_of k.id set ≡ Some o)
 abbrev pub IsUnited : List Op → List Op → List Op → Type 0
 IsUnited old read new =
     (set : List Op) → IsSound set → AreKeptOf set old → AreKeptOf set read → AreOfOne read → new ≡ both old read
+
+-- the event in which replica p receives from q: all that it offers, or the operation with the identifier
+abbrev pub receiving_event : ℕ → Option Id → ℕ → Event
+receiving_event q None p = E.Recv p q
+receiving_event q (Some i) p = E.Take p q i
+
+abbrev pub receiving_rule : Option Id → Rule
+receiving_rule None = R.Recv
+receiving_rule (Some i) = R.RecvOne
+
+-- what is received of what is offered
+abbrev pub read_of : Option Id → List Op → Option (List Op)
+read_of None os = Some os
+read_of (Some i) os = option_map (λ o. o ∷ []) (op_of i os)
 
 -- these were received: one step adds them to what was received before
 pub record HasReceived (read : List Op) (old new : ReplicaHistory) : Type 0 where

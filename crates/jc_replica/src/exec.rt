@@ -182,8 +182,7 @@ impl<S: TreeStore> Replica<S> {
         self.queue.reserve(1)?;
         let mark = self.store.mark();
         let id = op.id;
-        let before = self.ops.greatest_of(id.replica);
-        apply_to(self.alloc, &mut self.store, &mut self.ops, &op, &mut trace)?;
+        let before = apply_to(self.alloc, &mut self.store, &mut self.ops, &op, &mut trace)?;
         trace.close(0);
         self.done += 1;
         self.queue.push(op).unwrap();

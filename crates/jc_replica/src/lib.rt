@@ -5,6 +5,7 @@ mod apply;
 mod can;
 mod exec;
 mod fault;
+mod last_step;
 mod op_list;
 mod operation;
 mod received;
@@ -16,4 +17,5 @@ mod vars;
 mod yielding;
 
 pub use fault::ReplicaFault;
+pub use last_step::LastStep;
 pub use replica::Replica;

@@ -211,6 +211,7 @@ impl Received {
         requires { AreInOrder offered.now }
         ensures ok { OnOk result (IsUnited self.old offered.now self.new) }
         ensures back { IfOk result (λ came. without_ops came.items self.new ≡ self.old) }
+        ensures came { IfOk result (λ came. identifiers (filter (is_new self.old) self.new) ≡ came.items) }
         ensures order { AreInOrder self.new }
         ensures handed { AreHanded self.old → AreHanded offered.now → AreHanded self.new }
         ensures err { OnErr result (self.new ≡ self.old) }

@@ -1,8 +1,11 @@
 -- Of `ReplyTexts`: lists of events and of rules, and traces.
-use Rattle.std.proofs.Common.{◌≡◌, ℕ, ◌+◌, ◌<◌, ◌≤◌, List, [], ◌∷◌, ◌++◌, length, map, take, get_or, codes, sym, ap, subst, ◌∙◌, arith}
-use Rattle.std.proofs.lemmas.List.{map_more, take_all}
+use Rattle.std.proofs.Common.{◌≡◌, ℕ, ◌+◌, ◌<◌, ◌≤◌, List, [], ◌∷◌, ◌++◌, length, map, take, get_or, codes, append_assoc, sym, ap, subst, ◌∙◌, arith}
+use Rattle.std.proofs.lemmas.List.{map_more, map-append, take_all, take_more}
 use Rattle.jc_rules.specs.declared.operation.Event.{Event}
 use Rattle.jc_rules.specs.declared.rule.Rule.{Rule}
+use Rattle.jc_rules.specs.declared.run.Run.{Run}
+use Rattle.jc_rules.specs.Runs.{deeper, run_rows, rows_of_all}
+use Rattle.jc_rules.proofs.RunsLemmas.{deeper_more, rows_of_all_more}
 use Rattle.jc_network.specs.NetworkHistory.{NetworkHistory}
 use Rattle.jc_network.specs.Enabled.{AreEnabled, candidates}
 use Rattle.jc_debug.specs.DebuggerState.{MakesEvent}
@@ -15,7 +18,7 @@ use Rattle.jc_session.proofs.ChosenEventsLemmas.{one_enabled}
 use Rattle.jc_answers.specs.declared.arrays.ArrayText.{ArrayText}
 use Rattle.jc_answers.specs.JsonTexts.{object_text}
 use Rattle.jc_answers.specs.Parts.{HasItems}
-use Rattle.jc_replies.specs.ReplyTexts.{events_answer, true_member, trace_answer, IsAnswer}
+use Rattle.jc_replies.specs.ReplyTexts.{events_answer, true_member, row_text, trace_answer, IsAnswer}
 use Rattle.jc_replies.specs.AnswerOf.{background_of}
 
 -- ---- items
@@ -29,6 +32,29 @@ all_items f xs n a enough h = with_items a (map f (take n xs)) (map f xs) (ap (m
 pub more_items : {X : Type 0} (f : X → List ℕ) (xs : List X) (i : ℕ) (d : X) (a : ArrayText) (text : List ℕ) → i < length xs → text ≡ f (get_or xs i d) → HasItems a (map f (take i xs) ++ text ∷ []) → HasItems a (map f (take (i + 1) xs))
 more_items f xs i d a text lt is h =
     with_items a (map f (take i xs) ++ text ∷ []) (map f (take (i + 1) xs)) (ap (λ t. map f (take i xs) ++ t ∷ []) is ∙ sym (map_more f xs i d lt)) h
+
+-- ---- the rules of a trace, run by run
+
+-- the next rule of a run
+pub run_items : (ts : List (List ℕ)) (rule : Rule) (depth i n : ℕ) (a : ArrayText) (text : List ℕ) → n ≡ i → text ≡ row_text (rule, depth + n) → HasItems a ((ts ++ map row_text (deeper rule depth i)) ++ text ∷ []) → HasItems a (ts ++ map row_text (deeper rule depth (i + 1)))
+run_items ts rule depth i n a text same is h =
+    let rows = deeper rule depth i in
+    let row : Rule × ℕ = (rule, depth + i) in
+    with_items a ((ts ++ map row_text rows) ++ text ∷ []) (ts ++ map row_text (deeper rule depth (i + 1)))
+    (append_assoc ts (map row_text rows) (text ∷ [])
+    ∙ ap (λ t. ts ++ (map row_text rows ++ t ∷ [])) (is ∙ ap (λ m. row_text (rule, depth + m)) same)
+    ∙ ap (λ l. ts ++ l) (sym (map-append row_text rows (row ∷ [])) ∙ ap (map row_text) (sym (deeper_more rule depth i)))) h
+
+-- the next run
+pub runs_items : (runs : List Run) (i : ℕ) (run : Run) (a : ArrayText) → i < length runs → run ≡ get_or runs i run → HasItems a (map row_text (rows_of_all (take i runs)) ++ map row_text (run_rows run)) → HasItems a (map row_text (rows_of_all (take (i + 1) runs)))
+runs_items runs i run a inside at h =
+    let before = rows_of_all (take i runs) in
+    let more : take (i + 1) runs ≡ take i runs ++ run ∷ [] = take_more runs i run inside ∙ ap (λ r. take i runs ++ r ∷ []) (sym at) in
+    with_items a (map row_text before ++ map row_text (run_rows run)) (map row_text (rows_of_all (take (i + 1) runs)))
+    (sym (map-append row_text before (run_rows run)) ∙ ap (map row_text) (sym (ap rows_of_all more ∙ rows_of_all_more (take i runs) run))) h
+
+pub all_runs : (runs : List Run) (n : ℕ) (a : ArrayText) → length runs ≤ n → HasItems a (map row_text (rows_of_all (take n runs))) → HasItems a (map row_text (rows_of_all runs))
+all_runs runs n a enough h = with_items a (map row_text (rows_of_all (take n runs))) (map row_text (rows_of_all runs)) (ap (λ (rs : List Run). map row_text (rows_of_all rs)) (take_all n runs enough)) h
 
 -- ---- events that aren't stuck
 

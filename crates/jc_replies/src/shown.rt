@@ -3,6 +3,7 @@
 ghost use Rattle.std.specs.Prelude.{◌≡◌, ℕ, List, [], ◌∷◌, ◌++◌, IfOk, OnOk, All, length, map};
 ghost use Rattle.jc_rules.specs.declared.operation.Event.{Event as AnyEvent};
 ghost use Rattle.jc_rules.specs.declared.rule.Rule.{Rule as AnyRule};
+ghost use Rattle.jc_rules.specs.Runs.{run_rows, rows_of_all};
 ghost use Rattle.jc_printer.specs.Canon.{AreNamed, canon_event, quoted};
 ghost use Rattle.jc_network.specs.Enabled.{AreEnabled, candidates};
 ghost use Rattle.jc_session.specs.AnswerOf.{AllNamed, IsTraceReply};
@@ -18,7 +19,7 @@ use jc_looks::flag;
 use jc_meaning::Comparison;
 use jc_network::Net;
 use jc_printer::print_event;
-use jc_rules::{Event, Rule, Text};
+use jc_rules::{Event, Rule, Run, Text};
 use std::alloc::{AllocError, Global};
 
 // ---- events
@@ -76,14 +77,26 @@ fn row(alloc: Global, rule: Rule, depth: u64) -> Result<Vec<u8>, AllocError>
     list.end()
 }
 
+/// Appends the rules of a run to the list.
+fn push_run(list: &mut ArrayText, alloc: Global, run: &Run) -> Result<(), AllocError>
+    ensures { OnOk result ((ts : List (List ℕ))
+        → HasItems list.old ts
+        → HasItems list.new (ts ++ map row_text (run_rows run.now))) }
+{
+    for i in 0..run.count {
+        let text = row(alloc, run.rule, run.depth + u64::from(i))?;
+        list.push(text.as_slice())?;
+    }
+    Ok(())
+}
+
 /// The rules of a trace.
-fn rows_of(alloc: Global, rows: &[(Rule, u64)]) -> Result<Vec<u8>, AllocError>
-    ensures { IfOk result (λ text. text.items ≡ array_text (map row_text rows.now)) }
+fn rows_of(alloc: Global, runs: &[Run]) -> Result<Vec<u8>, AllocError>
+    ensures { IfOk result (λ text. text.items ≡ array_text (map row_text (rows_of_all runs.now))) }
 {
     let mut list = ArrayText::new(alloc)?;
-    for (rule, depth) in rows {
-        let text = row(alloc, *rule, *depth)?;
-        list.push(text.as_slice())?;
+    for run in runs {
+        push_run(&mut list, alloc, run)?;
     }
     list.end()
 }
@@ -94,13 +107,13 @@ fn traced(
     names: &[Text],
     n: u64,
     event: &Event,
-    rows: &[(Rule, u64)],
+    runs: &[Run],
 ) -> Result<Vec<u8>, AllocError>
     requires { AreNamed event.now (length names.now) }
-    ensures { IfOk result (λ answer. answer.items ≡ trace_answer names.now n event.now rows.now) }
+    ensures { IfOk result (λ answer. answer.items ≡ trace_answer names.now n event.now (rows_of_all runs.now)) }
 {
     let text = print_event(alloc, names, event)?;
-    let rules = rows_of(alloc, rows)?;
+    let rules = rows_of(alloc, runs)?;
     object_text(
         alloc,
         &[
@@ -118,12 +131,12 @@ pub(crate) fn trace(alloc: Global, debugger: &Debugger) -> Result<Vec<u8>, Alloc
         (given : List AnyEvent) (text : List ℕ) (r : AnyReply) → IsTraceReply debugger.now r
         → IsAnswer (background_of given debugger.now) text r answer.items) }
 {
-    let Some(rows) = debugger.trace() else {
+    let Some(runs) = debugger.trace() else {
         return flag(alloc, "start");
     };
     let n = debugger.position();
     let event = &debugger.schedule()[n as usize - 1];
-    traced(alloc, debugger.net().names(), n, event, rows)
+    traced(alloc, debugger.net().names(), n, event, runs)
 }
 
 // ---- comparisons

@@ -3,6 +3,7 @@ pub mod ContextLemmas
 pub mod OrderLemmas
 pub mod PathLemmas
 pub mod RisingLemmas
+pub mod RunsLemmas
 pub mod EntriesLemmas
 pub mod KeyedEntriesLemmas
 pub mod ContextsAtLemmas

@@ -11,6 +11,7 @@ pub mod State
 pub mod Derivation
 pub mod Table
 pub mod Trace
+pub mod Runs
 pub mod Derives
 pub mod Version
 pub mod Step

@@ -1,9 +1,12 @@
 //! Traces: the rules of a derivation with their depths, as steps write them.
 
-ghost use Rattle.std.specs.Prelude.{◌≡◌, ◌<◌, ◌≤◌, [], length, take, IfOk, OnOk, OnErr};
+ghost use Rattle.std.specs.Prelude.{◌≡◌, ◌+◌, ◌<◌, ◌≤◌, ◌++◌, [], length, take, IfOk, OnOk, OnErr};
+ghost use Rattle.jc_rules.specs.Runs.{deeper, opened, rows_of_all};
 ghost use Rattle.jc_rules.specs.Trace.{pushed, one_deeper, one_higher, at_depth};
 
 use crate::rule::Rule;
+use crate::run::Run;
+use crate::runs::{add_run, drop_rows, rows_of};
 use std::alloc::{AllocError, Global};
 use std::marker::Model;
 
@@ -11,21 +14,23 @@ use std::marker::Model;
 /// The depth is never more than the number of rules.
 #[derive(Drop)]
 pub struct Trace {
-    rows: Vec<(Rule, u64)>,
+    runs: Vec<Run>,
+    /// The number of rows.
+    rows: usize,
     depth: u64,
 }
 
 impl Model for Trace {
     ghost use Rattle.jc_rules.specs.Trace.{Rows, rows_code};
-    ghost use Rattle.std.specs.Prelude.{◌≤◌, length};
+    ghost use Rattle.jc_rules.specs.Runs.{rows_of_all, IsTrace};
 
     ghost Value = { Rows };
 
     ghost coded = { rows_code };
 
-    ghost view = { λ a. record { rows = a.rows.items; depth = a.depth } };
+    ghost view = { λ a. record { rows = rows_of_all a.runs.items; depth = a.depth } };
 
-    ghost invariant = { λ a. a.depth ≤ length a.rows.items };
+    ghost invariant = { λ a. IsTrace a.runs.items a.rows a.depth };
 }
 
 /// How far a trace had come, and its depth then.
@@ -36,11 +41,33 @@ pub struct TraceMark {
 }
 
 impl Trace {
+    /// Appends rows of the rule, so many, the first at the depth and each one deeper than the one before. After a
+    /// refusal the trace is as it was.
+    fn add(&mut self, rule: Rule, count: u32) -> Result<(), AllocError>
+        ensures rows { OnOk result (self.new.rows ≡ self.old.rows ++ deeper rule self.old.depth count) }
+        ensures depth { OnOk result (self.new.depth ≡ self.old.depth) }
+        ensures room { OnOk result (self.new.depth + count ≤ length self.new.rows) }
+        ensures err { OnErr result (self.new ≡ self.old) }
+    {
+        let Some(rows) = self.rows.checked_add(count as usize) else {
+            return Err(AllocError);
+        };
+        let run = Run {
+            rule,
+            count,
+            depth: self.depth,
+        };
+        add_run(&mut self.runs, run)?;
+        self.rows = rows;
+        Ok(())
+    }
+
     pub fn new(alloc: Global) -> Self
         ensures { result ≡ record { rows = []; depth = 0 } }
     {
         Trace {
-            rows: Vec::new(alloc),
+            runs: Vec::new(alloc),
+            rows: 0,
             depth: 0,
         }
     }
@@ -51,8 +78,7 @@ impl Trace {
         ensures room { OnOk result (self.new.depth < length self.new.rows) }
         ensures err { OnErr result (self.new ≡ self.old) }
     {
-        self.rows.push((rule, self.depth))?;
-        Ok(())
+        self.add(rule, 1)
     }
 
     /// Goes to the premises of the last rule.
@@ -81,6 +107,17 @@ impl Trace {
         Ok(())
     }
 
+    /// Appends the rule so many times, each at the premises of the one before, and goes to those of the last.
+    /// After a refusal the trace is as it was.
+    pub fn open_times(&mut self, rule: Rule, count: u32) -> Result<(), AllocError>
+        ensures ok { OnOk result (self.new ≡ opened count rule self.old) }
+        ensures err { OnErr result (self.new ≡ self.old) }
+    {
+        self.add(rule, count)?;
+        self.depth += u64::from(count);
+        Ok(())
+    }
+
     /// Goes back to an earlier depth.
     pub fn close(&mut self, depth: u64)
         requires { depth ≤ self.old.depth }
@@ -96,11 +133,18 @@ impl Trace {
         self.depth
     }
 
-    /// The rules so far, each with its depth.
-    pub fn rows(&self) -> &[(Rule, u64)]
-        ensures { result.now ≡ self.now.rows }
+    /// The rules so far, each with its depth, as runs.
+    pub fn runs(&self) -> &[Run]
+        ensures { rows_of_all result.now ≡ self.now.rows }
     {
-        self.rows.as_slice()
+        self.runs.as_slice()
+    }
+
+    /// The rules so far, each with its depth, in a list of their own.
+    pub fn to_rows(&self, alloc: Global) -> Result<Vec<(Rule, u64)>, AllocError>
+        ensures { IfOk result (λ rows. rows.items ≡ self.now.rows) }
+    {
+        rows_of(alloc, self.runs.as_slice())
     }
 
     /// Marks the trace as it is.
@@ -110,7 +154,7 @@ impl Trace {
         ensures room { self.now.depth ≤ length self.now.rows }
     {
         TraceMark {
-            rows: self.rows.len(),
+            rows: self.rows,
             depth: self.depth,
         }
     }
@@ -119,9 +163,10 @@ impl Trace {
     pub fn copy(&self) -> Result<Self, AllocError>
         ensures { IfOk result (λ trace. trace ≡ self.now) }
     {
-        let rows = self.rows.clone()?;
+        let runs = self.runs.clone()?;
+        let rows = self.rows;
         let depth = self.depth;
-        Ok(Trace { rows, depth })
+        Ok(Trace { runs, rows, depth })
     }
 
     /// Gives list and depth back as they were at the mark.
@@ -130,7 +175,8 @@ impl Trace {
         requires room { mark.depth ≤ mark.rows }
         ensures { self.new ≡ record { rows = take mark.rows self.old.rows; depth = mark.depth } }
     {
-        self.rows.truncate(mark.rows);
+        drop_rows(&mut self.runs, self.rows - mark.rows);
+        self.rows = mark.rows;
         self.depth = mark.depth;
     }
 }

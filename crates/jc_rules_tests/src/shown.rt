@@ -2,6 +2,7 @@
 
 use crate::testing::{holds, is_text};
 use jc_rules::{Refusal, Rule, Trace};
+use std::alloc::Global;
 use std::process::Abort;
 use std::test::Fail;
 
@@ -26,9 +27,17 @@ fn names_and_numbers(rt: HostRuntime) {
     holds(&rt, "BadLine", Refusal::BadLine.number() == 58);
 }
 
-fn shows(rt: &impl Abort, trace: &Trace, rows: &[(Rule, u64)], depth: u64) {
-    assert!(rt; trace.rows() == rows);
+fn shows(
+    rt: &impl Abort,
+    alloc: Global,
+    trace: &Trace,
+    rows: &[(Rule, u64)],
+    depth: u64,
+) -> Result<(), Fail> {
+    let shown = trace.to_rows(alloc)?;
+    assert!(rt; shown.as_slice() == rows);
     assert!(rt; trace.depth() == depth);
+    Ok(())
 }
 
 #[test]
@@ -46,14 +55,31 @@ fn traces(rt: HostRuntime) -> Result<(), Fail> {
         (Rule::Get, 1),
         (Rule::Doc, 2),
     ];
-    shows(&rt, &trace, &rows, 2);
+    shows(&rt, rt.alloc(), &trace, &rows, 2)?;
     trace.cut(mark);
-    shows(&rt, &trace, &rows[..2], 1);
+    shows(&rt, rt.alloc(), &trace, &rows[..2], 1)?;
     trace.up();
-    shows(&rt, &trace, &rows[..2], 0);
+    shows(&rt, rt.alloc(), &trace, &rows[..2], 0)?;
     trace.open(Rule::Done)?;
     trace.close(0);
     holds(&rt, "closed", trace.depth() == 0);
+    Ok(())
+}
+
+/// Rules that go down are one run. A cut within it makes it shorter.
+#[test]
+fn a_trace_has_runs(rt: HostRuntime) -> Result<(), Fail> {
+    let mut trace = Trace::new(rt.alloc());
+    trace.open_times(Rule::Idx3, 2)?;
+    let mark = trace.mark();
+    trace.open(Rule::Idx3)?;
+    holds(&rt, "one", trace.runs().len() == 1);
+    let rows = [(Rule::Idx3, 0), (Rule::Idx3, 1), (Rule::Idx3, 2)];
+    shows(&rt, rt.alloc(), &trace, &rows, 3)?;
+    trace.cut(mark);
+    shows(&rt, rt.alloc(), &trace, &rows[..2], 2)?;
+    trace.push(Rule::Idx4)?;
+    holds(&rt, "two", trace.runs().len() == 2);
     Ok(())
 }
 
@@ -64,6 +90,5 @@ fn a_trace_is_copied(rt: HostRuntime) -> Result<(), Fail> {
     trace.open(Rule::Exec)?;
     let copy = trace.copy()?;
     trace.open(Rule::Let)?;
-    shows(&rt, &copy, &[(Rule::Exec, 0)], 1);
-    Ok(())
+    shows(&rt, rt.alloc(), &copy, &[(Rule::Exec, 0)], 1)
 }

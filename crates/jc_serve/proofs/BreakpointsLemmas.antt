@@ -1,5 +1,5 @@
 -- Of `Answers`: breakpoints that are set and taken away, and places that expressions give.
-use Rattle.std.proofs.Common.{◌≡◌, ◌≢◌, ℕ, ◌+◌, ◌<◌, List, [], ◌∷◌, length, slice_get, slice_set, Option, Some, None, codes, inl, inr, refl, sym, ap, subst, ◌∙◌}
+use Rattle.std.proofs.Common.{◌≡◌, ◌≢◌, ℕ, ◌+◌, List, length, slice_get, slice_set, Option, Some, None, codes, inr, refl, sym, ap, subst, ◌∙◌}
 use Rattle.std.specs.declared.alloc.Global.{Global}
 use Rattle.std.specs.declared.vec.Vec.{Vec}
 use Rattle.jc_rules.specs.declared.operation.Cursor.{Cursor}
@@ -8,7 +8,7 @@ use Rattle.jc_rules.specs.declared.refusal.Refusal.TheVariants as E
 use Rattle.jc_rules.specs.declared.rule.Rule.{Rule}
 use Rattle.jc_rules.specs.RuleNames.{rule_name}
 use Rattle.jc_rules.specs.Refused.{Cause}
-use Rattle.jc_rules.specs.State.{State, ACursor, Names, Pairs}
+use Rattle.jc_rules.specs.State.{ACursor}
 use Rattle.jc_rules.specs.Step.{Network}
 use Rattle.jc_syntax.specs.declared.tree.Expr.{Expr as AnyExpr}
 use Rattle.jc_syntax.specs.Trees.{expr_of}

@@ -1,11 +1,9 @@
 -- Of `Answers` and `AnswerOf`: which function answers a request.
-use Rattle.std.proofs.Common.{◌≡◌, ◌≢◌, ℕ, Bool, List, [], length, Option, Some, None, Ok, Err, IfOk, refl, sym, ap, subst, ◌∙◌}
+use Rattle.std.proofs.Common.{◌≡◌, ℕ, Bool, List, length, Option, Vec, Global, refl, sym, ap, subst, ◌∙◌}
 use Rattle.std.specs.Borrow.{Bor}
 use Rattle.std.specs.declared.alloc.Global.{Global}
 use Rattle.std.specs.declared.vec.Vec.{Vec}
-use Rattle.jc_rules.specs.Step.{Network}
 use Rattle.jc_printer.specs.Canon.{quoted}
-use Rattle.jc_parser.specs.declared.fault.ScenarioFault.{ScenarioFault}
 use Rattle.jc_scenario.specs.Canon.{canon}
 use Rattle.jc_scenario.specs.Views.{scenario_view}
 use Rattle.jc_scenario.specs.WellFormed.{Scenario, IsScenario}
@@ -14,34 +12,28 @@ use Rattle.jc_session.specs.declared.request.Request.{Request as AnyRequest}
 use Rattle.jc_session.specs.declared.request.Request.TheVariants as R
 use Rattle.jc_session.specs.Requests as Q
 use Rattle.jc_session.specs.Views.{request_view}
-use Rattle.jc_requests.specs.declared.kinds.Asked.{Asked as AnyAsked}
-use Rattle.jc_requests.specs.declared.kinds.Asked.TheVariants as V
-use Rattle.jc_requests.specs.declared.kinds.Position.{Position as AnyPosition}
 use Rattle.jc_requests.specs.Asked as K
 use Rattle.jc_requests.specs.Asked.{Asked, Position}
-use Rattle.jc_requests.specs.Views.{at_view, word_view, between_view, asked_view}
 use Rattle.jc_answers.specs.JsonTexts.{array_text}
 use Rattle.jc_looks.specs.declared.fault.LookFault.{LookFault}
 use Rattle.jc_looks.specs.declared.fault.LookFault.TheVariants as F
 use Rattle.jc_looks.specs.declared.looks.Look.{Look}
 use Rattle.jc_looks.specs.LookFaults.{RefusesBy}
-use Rattle.jc_listings.specs.declared.journals.Details.{Details}
 use Rattle.jc_listings.specs.Journals.{AnswersJournal, AnswersEvent}
 use Rattle.jc_listings.specs.Places.{IsPlaces}
 use Rattle.jc_listings.specs.WovenTexts.{IsWovenText}
 use Rattle.jc_serve.specs.declared.served.Served.{Served as AnyServed}
 use Rattle.jc_serve.specs.declared.stuck.GivenStop.{GivenStop as AnyGivenStop}
-use Rattle.jc_serve.specs.declared.subjects.Subject.{Subject as AnySubject}
 use Rattle.jc_serve.specs.declared.subjects.Subject.TheVariants as S
 use Rattle.jc_serve.specs.Answers as A
-use Rattle.jc_serve.specs.Answers.{details, IsOwn, quit_answer, mark_answers, IsOfText, AnswersServed, AnswersStuck, AnswersRefused, AnswersAbout}
+use Rattle.jc_serve.specs.Answers.{details, IsOwn, quit_answer, mark_answers, IsOfText, AnswersServed, AnswersStuck, AnswersAbout}
 use Rattle.jc_serve.specs.Asking as G
 use Rattle.jc_serve.specs.Asking.{IsLookRequest, IsBadLook, AsksLook, LooksAt}
-use Rattle.jc_serve.specs.AnswerOf.{LeadsTo, ShowsIn, IsPlain, IsStopped, IsOfStop, IsStopLook, AnswersStop, IsInService, IsSomeStop, IsSubjectOf, AnswersOn}
-use Rattle.jc_serve.specs.InMemory.{state_of, IsServing}
+use Rattle.jc_serve.specs.AnswerOf.{LeadsTo, ShowsIn, IsOfStop, IsStopLook, AnswersStop, IsInService, IsSomeStop, IsSubjectOf, AnswersRefusedBy, AnswersOn}
+use Rattle.jc_serve.specs.InMemory.{state_of}
 use Rattle.jc_serve.specs.Marks.{Served}
-use Rattle.jc_serve.specs.Subjects.{Subject, GivenStop, no_scenario, stuck_given, served}
-use Rattle.jc_serve.proofs.AnswersLemmas.{shows_lead, same_lead}
+use Rattle.jc_serve.specs.Subjects.{Subject, no_scenario, stuck_given, served}
+use Rattle.jc_serve.proofs.AnswersLemmas.{shows_lead}
 use Rattle.jc_serve.proofs.StopAnswersLemmas.{look_answer}
 
 -- ---- where there is a session
@@ -143,11 +135,10 @@ module _ (text : List ℕ) where
   held_stopped (stuck_given s stop) y h = ((s, stop, h.1), (s, h.0))
   held_stopped (served s start A) y h = absurd h
 
-  pub refused_on : (fault : ScenarioFault) (r : Asked) (answer : List ℕ) → AnswersRefused text fault r answer → AnswersOn text (S.NoScenario fault) r (S.NoScenario fault) answer
-  refused_on fault r answer h (no_scenario told) is =
-      (no_scenario told, A.of_refused (subst (λ f. AnswersRefused text f r answer) is h), is)
-  refused_on fault r answer h (stuck_given s stop) is = absurd is
-  refused_on fault r answer h (served s start A) is = absurd is
+  pub refused_on : (why : Vec ℕ Global) (r : Asked) (answer : List ℕ) → AnswersRefusedBy why.items r answer → AnswersOn text (S.NoScenario why) r (S.NoScenario why) answer
+  refused_on why r answer h (no_scenario fault) is = (no_scenario fault, A.of_refused (h text fault is), is)
+  refused_on why r answer h (stuck_given s stop) is = absurd is
+  refused_on why r answer h (served s start A) is = absurd is
 
   pub stuck_on : (y : AnyGivenStop) (r : Asked) (answer : List ℕ) → AnswersStop text y r answer → AnswersOn text (S.StuckGiven y) r (S.StuckGiven y) answer
   stuck_on y r answer h (no_scenario told) is = absurd is

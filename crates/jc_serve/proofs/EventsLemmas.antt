@@ -1,16 +1,18 @@
 -- Of jc_listings' `Journals`: what is told of events of a session.
-use Rattle.std.proofs.Common.{◌≡◌, ◌↔◌, ℕ, suc, ◌+◌, ◌-◌, ◌<◌, ◌≤◌, Bool, true, false, List, [], length, take, get_or, slice_get, option_copied, Option, Some, None, Ok, IfSome, IsNone, option_map, refl, sym, ap, subst, ◌∙◌, arith}
+use Rattle.std.proofs.Common.{◌≡◌, ◌↔◌, ℕ, suc, ◌+◌, ◌-◌, ◌<◌, false, List, [], length, get_or, slice_get, option_copied, Option, Some, None, Ok, IfSome, IsNone, refl, sym, ap, subst, ◌∙◌, arith}
 use Rattle.std.specs.Borrow.{Bor}
 use Rattle.jc_rules.specs.declared.operation.Event.{Event}
 use Rattle.jc_rules.specs.declared.rule.Rule.{Rule}
+use Rattle.jc_rules.specs.declared.run.Run.{Run}
 use Rattle.std.proofs.lemmas.Option.{slice_get-get_or}
-use Rattle.jc_rules.specs.Step.{Network, AfterIn, StepIn}
+use Rattle.jc_rules.specs.Step.{Network, StepIn}
+use Rattle.jc_rules.specs.Runs.{rows_of_all}
 use Rattle.jc_rules.specs.Trace.{Rows}
 use Rattle.jc_scenario.specs.Views.{scenario_view}
 use Rattle.jc_scenario.specs.WellFormed.{Scenario}
 use Rattle.jc_effects.specs.declared.effects.Effects.{Effects}
 use Rattle.jc_journal.specs.declared.event.NumberedEvent.{NumberedEvent}
-use Rattle.jc_journal.specs.EventLine.{AreEffects, event_line}
+use Rattle.jc_journal.specs.EventLine.{IsBeforeLast, AreEffects, event_line}
 use Rattle.jc_journal.specs.Parts.{rows_of, differences_in, differences_at}
 use Rattle.jc_network.specs.NetworkHistory.{NetworkHistory}
 use Rattle.jc_looks.specs.declared.fault.LookFault.{LookFault}
@@ -35,10 +37,11 @@ use Rattle.jc_serve.specs.Marks.{moved_to}
 use Rattle.jc_serve.proofs.PositionsLemmas.{at_given, given_leads}
 use Rattle.jc_serve.proofs.PlacedLemmas.{line_placed, step_here}
 use Rattle.jc_serve.proofs.SessionsLemmas.{moved_debugger, aside_moved, here_moved}
+use Rattle.jc_serve.proofs.MarksLemmas.{last_is}
 
 -- the rules of the event that led to a position behind 0
-pub rules_there : (d : Seen) (r : Option (Bor (List (Rule × ℕ)))) → IfSome r (λ t. IsTraceOf d t.now) → (IsNone r ↔ (length d.traces ≡ 0)) → 0 < length d.traces → (rows : List (Rule × ℕ)) × IsTraceOf d rows × (rows_of r ≡ Some rows)
-rules_there d (Some t) h none some = (t.now, h, refl)
+pub rules_there : (d : Seen) (r : Option (Bor (List Run))) → IfSome r (λ t. IsTraceOf d (rows_of_all t.now)) → (IsNone r ↔ (length d.traces ≡ 0)) → 0 < length d.traces → (rows : List (Rule × ℕ)) × IsTraceOf d rows × (rows_of r ≡ Some rows)
+rules_there d (Some t) h none some = (rows_of_all t.now, h, refl)
 rules_there d None h none some = let zero = none.0 refl in absurd (omega (arith, zero, some))
 
 module _ (s : Scenario) (start : Network) (x : AnyServed) (v : IsServing s start x) (details : Details) where
@@ -80,6 +83,19 @@ module _ (a h : Seen) (n1 n2 : NetworkHistory) (trail : IsDebugger h) (behind : 
   pub step_found : (rows : List (Rule × ℕ)) (t : IsTraceOf h rows) → e ≡ t.event → StepIn a.net.history.now e h.net.history.now rows
   step_found rows t same =
       subst (λ (f : Event). StepIn a.net.history.now f h.net.history.now rows) (sym same) (step_here a h rows behind own_at (is_at h trail) t).0
+
+  pub last_found : IsBeforeLast a.net.history.now h.net.history
+  last_found =
+      let there : IsNetworkAt (start_of h) h.schedule (length a.traces) a.net.history.now =
+      subst (λ (S : Network). IsNetworkAt S h.schedule (length a.traces) a.net.history.now) behind.1
+      (subst (λ (es : List Event). IsNetworkAt (start_of a) es (length a.traces) a.net.history.now) behind.0 own_at) in
+      last_is a h (length a.traces) trail there (let w = behind.2 in omega (arith, w))
+
+  -- of the networks that are read
+  pub last_there : IsBeforeLast n1.history.now n2.history
+  last_there =
+      subst (λ (n : NetworkHistory). IsBeforeLast n.history.now n2.history) (sym one)
+      (subst (λ (n : NetworkHistory). IsBeforeLast a.net.history.now n.history) (sym two) last_found)
 
   pub line_found : (details : Details) (number : ℕ) (rows : List (Rule × ℕ)) (t : IsTraceOf h rows) (effects : Option Effects) (r : Option (Bor Effects)) (rules : Option (List (Rule × ℕ))) (line text : List ℕ)
       → e ≡ t.event

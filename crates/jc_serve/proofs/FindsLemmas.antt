@@ -1,5 +1,5 @@
 -- Of jc_looks' `LookFaults`: what is known of a result, carried over to what is asked.
-use Rattle.std.proofs.Common.{◌≡◌, ℕ, List, Result, Ok, Err, IfOk, MatchResult}
+use Rattle.std.proofs.Common.{ℕ, List, Result, Ok, Err, IfOk}
 use Rattle.std.specs.declared.alloc.Global.{Global}
 use Rattle.std.specs.declared.vec.Vec.{Vec}
 use Rattle.jc_looks.specs.declared.fault.LookFault.{LookFault}

@@ -1,11 +1,11 @@
 -- Of jc_requests' `Asked`: no line asks `weave` for more events than a schedule may have.
-use Rattle.std.proofs.Common.{◌≡◌, ℕ, ◌≤◌, Bool, true, false, nat_le, nat_lt, ◌==◌, if◌then◌else◌, List, [], ◌∷◌, ◌+◌, take, drop, position, Option, Some, None, option_map, refl, subst, codes, rules}
+use Rattle.std.proofs.Common.{◌≡◌, ℕ, Bool, true, false, nat_le, nat_lt, ◌==◌, if◌then◌else◌, List, [], ◌∷◌, ◌+◌, take, drop, position, Option, Some, None, option_map, refl, subst, codes, rules}
 use Rattle.std.specs.Option.{option_and_then}
 use Rattle.std.specs.List.{list_all}
 use Rattle.std.specs.Str.{bytes_eq}
 use Rattle.jc_rules.specs.declared.limits.TheConstants.{MAX_EVENTS}
 use Rattle.jc_session.specs.Lines.{Line}
-use Rattle.jc_session.specs.Requests.{Word, Request, Meaning, asks, nothing, bad, among, words, meaning, number_in}
+use Rattle.jc_session.specs.Requests.{Word, Meaning, asks, nothing, bad, among, words, meaning, number_in}
 use Rattle.jc_requests.specs.Asked as K
 use Rattle.jc_requests.specs.Asked.{Asked, Position, asked, asked_by, meant, in_session, alone, viewed, stated, briefed, evaluated, event_of, journal_by, journal_of, pair_of, at_position, op_by, op_in, break_of, weave_by, weave_of, limit_of, limit_in, seed_in, scenario_of, exactly, own, or_by_session, only, past_at, past_details, position_in}
 use Rattle.jc_serve.specs.AnswerOf.{IsWithinLimit}

@@ -1,5 +1,5 @@
 -- Of `AnswerOf`: what a session shows at other positions, and its debuggers where a move has ended.
-use Rattle.std.proofs.Common.{◌≡◌, ℕ, suc, ◌+◌, ◌-◌, ◌<◌, ◌≤◌, List, [], length, take, slice_get, Option, Some, None, Ok, refl, sym, ap, subst, ◌∙◌, arith}
+use Rattle.std.proofs.Common.{◌≡◌, ℕ, ◌+◌, ◌≤◌, List, length, take, sym, ap, subst, ◌∙◌, arith}
 use Rattle.std.specs.List.{All}
 use Rattle.jc_rules.specs.declared.operation.Event.{Event}
 use Rattle.jc_rules.specs.declared.refusal.Refusal.TheVariants as F
@@ -19,7 +19,6 @@ use Rattle.jc_debug.specs.Invariant.{Seen, IsDebugger, IsMoved, start_of}
 use Rattle.jc_debug.specs.Moves.{IsMoveFault, IsToldAt}
 use Rattle.jc_session.specs.AnswerOf.{AllNamed}
 use Rattle.jc_looks.specs.declared.looks.Look.{Look}
-use Rattle.jc_looks.specs.declared.looks.Look.TheVariants as L
 use Rattle.jc_looks.specs.Looks.{IsWithin, ShowsLook}
 use Rattle.jc_listings.specs.Positions.{IsAt}
 use Rattle.jc_serve.specs.declared.served.Served.{Served as AnyServed}
@@ -27,7 +26,7 @@ use Rattle.jc_serve.specs.AnswerOf.{ShowsAt, stopped_answer}
 use Rattle.jc_serve.specs.InMemory.{IsDebuggerOf, IsServing}
 use Rattle.jc_serve.proofs.PositionsLemmas.{at_schedule, at_given, given_leads}
 use Rattle.jc_serve.proofs.PlacedLemmas.{StopsBefore, stopped_there, stuck_is_named}
-use Rattle.jc_serve.proofs.SessionsLemmas.{each_at, moved_debugger, aside_moved, here_moved}
+use Rattle.jc_serve.proofs.SessionsLemmas.{each_at, moved_debugger}
 
 pub shows_at : (s : Scenario) (events : List Event) (n : ℕ) (net : NetworkHistory) (look : Look) (answer : List ℕ) → IsAt s events n net.history.now → net.names ≡ s.names → ShowsLook net.names net.history.now.states look answer → ShowsAt s events n look answer
 shows_at s events n net look answer at names h = record {

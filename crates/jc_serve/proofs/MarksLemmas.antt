@@ -1,5 +1,5 @@
 -- Of `Marks` and `InMemory`: the event that led to a debugger's position, and what breakpoints say of it.
-use Rattle.std.proofs.Common.{◌≡◌, ◌≢◌, ◌↔◌, ℕ, suc, ◌+◌, ◌-◌, ◌<◌, ◌≤◌, nat_eq, ◌&&◌, is_some, slice_index_or, slice_set, List, ◌∷◌, [], ◌++◌, length, take, slice_get, Option, Some, None, Bool, true, false, IsTrue, refl, ap, sym, subst, ◌∙◌, arith}
+use Rattle.std.proofs.Common.{◌≡◌, ◌≢◌, ◌↔◌, ℕ, zero, suc, ◌+◌, ◌-◌, ◌<◌, ◌≤◌, nat_eq, ◌&&◌, is_some, slice_index_or, slice_set, List, ◌∷◌, [], ◌++◌, length, take, slice_get, Option, Some, None, Bool, true, false, IsTrue, refl, ap, sym, subst, ◌∙◌, arith}
 use Rattle.std.proofs.lemmas.Bool.Decides.{nat_tests}
 use Rattle.std.proofs.lemmas.List.{length-map, map-set}
 use Rattle.std.proofs.lemmas.Option.{slice_get-map, slice_get_read, slice_get-get_or, slice_get_within, same_Some}
@@ -22,9 +22,7 @@ use Rattle.jc_effects.specs.Difference.{Differences, IsDifference}
 use Rattle.jc_effects.specs.Places.{differs_at}
 use Rattle.jc_effects.proofs.OneLemmas.{one_difference}
 use Rattle.jc_network.specs.NetworkHistory.{NetworkHistory}
-use Rattle.jc_journal.specs.declared.before.Before.{Before}
-use Rattle.jc_journal.specs.Before.{IsNoted}
-use Rattle.jc_journal.specs.EventLine.{event_op, AreEffects, AreEffectsOf}
+use Rattle.jc_journal.specs.EventLine.{IsBeforeLast, event_op, AreEffects, AreEffectsOf}
 use Rattle.jc_journal.specs.Parts.{differences_in}
 use Rattle.jc_serve.specs.declared.marks.Mark.{Mark as AnyMark}
 use Rattle.jc_serve.specs.InMemory.{mark_of, marks_of, IsBehind, NamesHere, Led}
@@ -84,6 +82,21 @@ behind aside here m h b e =
     (subst (λ (es : List Event). IsNetworkAt (start_of aside) es m aside.net.history.now) b.0
     (subst (λ (k : ℕ). IsNetworkAt (start_of aside) aside.schedule k aside.net.history.now) size (is_at aside h)))
 
+-- the network before the last one
+pub before_last : (es : List Network) (N : Network) (m : ℕ) (x : Network) → length es ≡ m + 1 → slice_get (es ++ N ∷ []) m ≡ Some x → es ≡ take m es ++ x ∷ []
+before_last [] N m x l e = absurd (omega (arith, l))
+before_last (y ∷ []) N zero x l e = ap (λ (z : Network). z ∷ []) (same_Some y x e)
+before_last (y ∷ z ∷ ys) N zero x l e = absurd (omega (arith, l))
+before_last (y ∷ ys) N (suc m) x l e = ap (λ (zs : List Network). y ∷ zs) (before_last ys N m x (omega (arith, l)) e)
+
+-- the debugger behind is at the network before the last step
+pub last_is : (aside here : Seen) (m : ℕ) → IsDebugger here → IsNetworkAt (start_of here) here.schedule m aside.net.history.now → length here.traces ≡ m + 1 → IsBeforeLast aside.net.history.now here.net.history
+last_is aside here m h there e =
+    let f = h.follows m (omega (arith, e)) in
+    let same : f.before ≡ aside.net.history.now = one_after_in (start_of here) (take m here.schedule) f.before aside.net.history.now (after_first here h m (omega (arith, e)) f.before f.is_before) there.after in
+    let count : length here.net.history.earlier ≡ m + 1 = h.count ∙ e in
+    subst (λ (N : Network). IsBeforeLast N here.net.history) same (record { before = take m here.net.history.earlier; earlier = before_last here.net.history.earlier here.net.history.now m f.before count f.is_before })
+
 pub led : (aside here : Seen) (event : Event) (m : ℕ) → IsDebugger aside → IsDebugger here → IsBehind aside here → m ≡ length aside.traces → slice_get here.schedule m ≡ Some event → Led aside here event
 led aside here event m g h b behind_it at =
     let e : length here.traces ≡ m + 1 = (let w = b.2 in omega (arith, w, behind_it)) in
@@ -103,6 +116,7 @@ led aside here event m g h b behind_it at =
       step = subst (λ (N : Network). StepIn N event here.net.history.now f.rows.rows) before
           (subst (λ (x : Event). StepIn f.before x here.net.history.now f.rows.rows) same
           (subst (λ (M : Network). StepIn f.before f.event M f.rows.rows) after f.step));
+      last = last_is aside here m h there e;
     }
 
 -- the same of the event that code reads by its index
@@ -174,14 +188,13 @@ some_made (Some o) i e = let same : o.id ≡ i = cc in (o, refl, same)
 abbrev pub FoundOp : Option Id → Event → State → State → Type 0
 FoundOp found e A B = found ≡ option_map (λ o. o.id) (event_op e A B)
 
--- what was noted of the network before the event, and what was found by it
-pub found_steps : (aside here : Seen) (event : Event) (noted : Before) (found : Option Id) (old new : NetworkHistory) → old ≡ aside.net → new ≡ here.net
-    → ((N : Network) (rows : List (Rule × ℕ)) → (made : StepIn N event new.history.now rows) → IsNoted event N.states noted → FoundOp found event made.step.before made.step.after)
-    → IsNoted event old.history.now.states noted
+-- what was found by the last step of a network
+pub found_steps : (aside here : Seen) (event : Event) (found : Option Id) (new : NetworkHistory) → new ≡ here.net → IsBeforeLast aside.net.history.now here.net.history
+    → ((N : Network) (e : Event) (rows : List (Rule × ℕ)) → IsBeforeLast N new.history → (made : StepIn N e new.history.now rows) → FoundOp found e made.step.before made.step.after)
     → OfSteps (FoundOp found) aside.net.history.now event here.net.history.now
-found_steps aside here event noted found old new is_old is_new told is_noted rows made =
-    subst (λ (x : NetworkHistory). (N : Network) (rows : List (Rule × ℕ)) → (made : StepIn N event x.history.now rows) → IsNoted event N.states noted → FoundOp found event made.step.before made.step.after) is_new told
-    aside.net.history.now rows made (subst (λ (x : NetworkHistory). IsNoted event x.history.now.states noted) is_old is_noted)
+found_steps aside here event found new is_new last told rows made =
+    subst (λ (x : NetworkHistory). (N : Network) (e : Event) (rows : List (Rule × ℕ)) → IsBeforeLast N x.history → (made : StepIn N e x.history.now rows) → FoundOp found e made.step.before made.step.after) is_new told
+    aside.net.history.now event rows last made
 
 pub made_named : (aside here : Seen) (event : Event) (found i : Id) (t : Bool) → IsDebugger here → Led aside here event → OfSteps (FoundOp (Some found)) aside.net.history.now event here.net.history.now → (IsTrue t ↔ (found ≡ i))
     → IsTrue t ↔ MarkNames (start_of here) here.schedule (operation i) (length here.traces)

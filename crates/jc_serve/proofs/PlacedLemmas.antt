@@ -1,8 +1,6 @@
 -- Of `Asking` and jc_listings' `Journals`: what is shown at other positions of a session.
-use Rattle.std.proofs.Common.{◌≡◌, ℕ, zero, suc, ◌+◌, ◌-◌, ◌<◌, ◌≤◌, false, true, Bool, nat_lt, if◌then◌else◌, List, [], ◌∷◌, ◌++◌, length, take, slice_get, Option, Some, None, Result, Ok, Err, refl, sym, ap, subst, ◌∙◌, arith, rules, length-append}
-use Rattle.std.proofs.lemmas.Bool.{lt-ltb}
-use Rattle.std.specs.List.{All}
-use Rattle.std.proofs.lemmas.Option.{same_Some, slice_get_within}
+use Rattle.std.proofs.Common.{◌≡◌, ℕ, suc, ◌+◌, ◌-◌, ◌<◌, false, true, Bool, nat_lt, if◌then◌else◌, List, [], length, take, slice_get, Some, refl, sym, ap, subst, ◌∙◌, arith, rules}
+use Rattle.std.proofs.lemmas.Option.{slice_get_within}
 use Rattle.jc_rules.specs.declared.operation.Event.{Event}
 use Rattle.jc_rules.specs.declared.rule.Rule.{Rule}
 use Rattle.jc_rules.specs.Refused.{Cause}
@@ -13,8 +11,8 @@ use Rattle.jc_network.specs.declared.fault.Stuck.{Stuck}
 use Rattle.jc_network.specs.Steps.{stuck_for}
 use Rattle.jc_network.proofs.AfterLemmas.{after_one_more, take_more}
 use Rattle.jc_dump.specs.Lines.{IsNamedStuck}
-use Rattle.jc_debug.specs.DebuggerState.{IsNetworkAt, IsStuckAt, MakesEvent}
-use Rattle.jc_debug.specs.Invariant.{Seen, IsDebugger, IsMoved, start_of}
+use Rattle.jc_debug.specs.DebuggerState.{IsNetworkAt}
+use Rattle.jc_debug.specs.Invariant.{Seen, IsDebugger, start_of}
 use Rattle.jc_debug.specs.Moves.{IsToldAt, IsTraceOf}
 use Rattle.jc_debug.proofs.InvariantLemmas.{is_at}
 use Rattle.jc_debug.proofs.LawsLemmas.{one_network}
@@ -24,10 +22,10 @@ use Rattle.jc_session.specs.Reply as Y
 use Rattle.jc_session.specs.Reply.{Reply}
 use Rattle.jc_session.proofs.AnswerOfLemmas.{of_all}
 use Rattle.jc_replies.specs.AnswerOf.{background_of}
-use Rattle.jc_replies.specs.ReplyTexts.{stuck_member, move_answer, Background, IsAnswer}
+use Rattle.jc_replies.specs.ReplyTexts.{stuck_member, move_answer, IsAnswer}
 use Rattle.jc_listings.specs.declared.journals.Details.{Details}
 use Rattle.jc_listings.specs.Journals.{IsMadeLine, IsLineBehind}
-use Rattle.jc_listings.specs.Positions.{all_events, background, number_behind, unreached_answer, IsAt, StopsAt}
+use Rattle.jc_listings.specs.Positions.{background, number_behind, unreached_answer, StopsAt}
 use Rattle.jc_serve.specs.declared.served.Served.{Served as AnyServed}
 use Rattle.jc_serve.specs.AnswerOf.{IsLineHere, stopped_answer}
 use Rattle.jc_serve.specs.InMemory.{IsDebuggerOf, IsServing, IsBehind}

@@ -26,12 +26,17 @@ use Rattle.jc_serve.specs.declared.serving.ServeFault.TheVariants as F
 use Rattle.jc_serve.specs.declared.subjects.Subject.{Subject as AnySubject}
 use Rattle.jc_serve.specs.AnswerOf.{IsSubjectOf, IsNewFor, IsHeldFor, AnswersOn}
 use Rattle.jc_serve.specs.Answers.{AnswersAbout}
-use Rattle.jc_serve.specs.Subjects.{Subject, IsSubject, IsCounts}
+use Rattle.jc_serve.specs.Subjects.{IsSubject, IsCounts}
 use Rattle.jc_serve.specs.Serving as V
 use Rattle.jc_serve.specs.Serving.{Held, IsFirst, AnswersTurn, AnswersTurns, IsQuit, HasNoQuit, BeginWith, AreFirst, AreAll, Serves, all, up_to_quit}
 use Rattle.jc_serve.specs.Stopped as P
 use Rattle.jc_serve.specs.Stopped.{AnsweredFirst, StoppedAtRead, StoppedWhole, StoppedInside, IsAtLimit, LeftBehind, LeftPast}
-use Rattle.jc_serve.specs.Progress.{fault_of_read, IsHeldAs, IsHeld, LeadsOn, GoesOut, AreRead, SoFar}
+use Rattle.jc_serve.specs.Progress.{fault_of_read, IsHeldAs, IsHeld, LeadsOn, AreRead, SoFar}
+
+-- The request leads from the one to the other, and its answer is a line that went out so.
+abbrev pub GoesOut : (List ℕ → Stream → Stream → Type 0) → AnyHeld → Turn → AnyHeld → Stream → Stream → Type 0
+GoesOut Went old turn new out_old out_new =
+    (answer : List ℕ) × LeadsOn old turn new answer × Went (answer ++ 10 ∷ []) out_old out_new
 
 -- ---- one request more
 
@@ -411,17 +416,12 @@ goes_on line none = (λ f. absurd (true_is_false f), λ f. absurd (none_is_some 
     none_is_some : None ≡ Some (of_session Q.quit) → ⊥
     none_is_some k = cc
 
-pub text_led : (x y : AnyHeld) (bytes text items : List ℕ) (I : Held) → I.text ≡ bytes → IsSubject bytes I.subject → IsHeldAs I y → text ≡ y.text.items → ((is : Subject) → IsSubjectOf text is y.subject → IsCounts text is items) → LeadsOn x (brings bytes) y items
-text_led x y bytes text items I e is (same, of) read counts H held =
-    let t : text ≡ I.text = read ∙ same in
-    let c = counts I.subject (subst (λ (l : List ℕ). IsSubjectOf l I.subject y.subject) (sym t) of) in (
-      record { text = bytes; subject = I.subject },
-      V.brings_text is (subst (λ (l : List ℕ). IsCounts l I.subject items) (t ∙ e) c),
-      (same ∙ e, subst (λ (l : List ℕ). IsSubjectOf l I.subject y.subject) e of),
-    )
-
-pub new_held : (y : AnyHeld) (text : List ℕ) (I : Held) → IsHeldAs I y → text ≡ y.text.items → IsHeldFor text y.subject
-new_held y text I h e = held_for y text e (I, h)
+pub text_led : (x y : AnyHeld) (bytes items : List ℕ) (H : Held) → H.text ≡ bytes → IsSubject bytes H.subject → IsHeldAs H y → IsCounts H.text H.subject items → LeadsOn x (brings bytes) y items
+text_led x y bytes items H e is (same, of) counts I held = (
+  record { text = bytes; subject = H.subject },
+  V.brings_text is (subst (λ (l : List ℕ). IsCounts l H.subject items) e counts),
+  (same ∙ e, subst (λ (l : List ℕ). IsSubjectOf l H.subject y.subject) e of),
+)
 
 -- what was led on, and how its line went
 pub went_out : (Went : List ℕ → Stream → Stream → Type 0) (x y : AnyHeld) (turn : Turn) (items : List ℕ) (old new : Stream) → LeadsOn x turn y items → Went (items ++ 10 ∷ []) old new → GoesOut Went x turn y old new

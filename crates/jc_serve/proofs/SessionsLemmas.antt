@@ -1,20 +1,20 @@
 -- Of `InMemory` and `AnswerOf`: sessions in memory, and what a session's requests make of them.
-use Rattle.std.proofs.Common.{◌≡◌, ℕ, suc, ◌+◌, ◌<◌, ◌≤◌, List, [], ◌∷◌, ◌++◌, length, take, map, replicate, slice_get, Option, Some, None, refl, sym, ap, subst, ◌∙◌, arith, length-append}
+use Rattle.std.proofs.Common.{◌≡◌, ℕ, ◌+◌, ◌<◌, ◌≤◌, List, [], ◌∷◌, ◌++◌, length, take, replicate, slice_get, Some, None, refl, sym, ap, subst, ◌∙◌, arith, length-append}
 use Rattle.std.specs.List.{All}
 use Rattle.std.proofs.lemmas.List.{length-map, length-take-le, take_all}
+use Rattle.std.proofs.Math.Seq.{take-append_seam}
 use Rattle.jc_rules.specs.declared.limits.TheConstants.{MAX_BREAKS}
 use Rattle.jc_rules.specs.declared.operation.Event.{Event}
-use Rattle.jc_rules.specs.Refused.{Cause}
-use Rattle.jc_rules.specs.State.{State, start as first_state}
+use Rattle.jc_rules.specs.State.{start as first_state}
 use Rattle.jc_rules.specs.Step.{Network, AfterIn}
 use Rattle.jc_rules.proofs.VersionLemmas.{after_states}
 use Rattle.jc_printer.specs.Canon.{AreNamed}
 use Rattle.jc_scenario.specs.WellFormed.{Scenario, IsWellFormedScenario}
-use Rattle.jc_network.specs.Given.{before_given, IsStart}
+use Rattle.jc_network.specs.Given.{before_given}
 use Rattle.jc_network.specs.Laws.{starts}
 use Rattle.jc_network.proofs.AfterLemmas.{after_count}
 use Rattle.jc_debug.specs.DebuggerState.{Session, IsNetworkAt, acted}
-use Rattle.jc_debug.specs.Invariant.{Seen, IsDebugger, IsMoved, start_of, session_of}
+use Rattle.jc_debug.specs.Invariant.{Seen, IsDebugger, IsMoved, session_of}
 use Rattle.jc_debug.proofs.InvariantLemmas.{is_at}
 use Rattle.jc_choice.specs.Legal.{IsLegal}
 use Rattle.jc_choice.specs.Laws.{with_schedule}
@@ -32,9 +32,10 @@ use Rattle.jc_listings.specs.Positions.{background, IsAt}
 use Rattle.jc_serve.specs.declared.served.Served.{Served as AnyServed}
 use Rattle.jc_serve.specs.Answers as A
 use Rattle.jc_serve.specs.Answers.{IsOwn, AnswersServed}
-use Rattle.jc_serve.specs.AnswerOf.{IsAct, IsFollowed, LeadsTo}
+use Rattle.jc_serve.specs.AnswerOf.{IsAct, IsFollowed, IsInService, LeadsTo}
 use Rattle.jc_serve.specs.InMemory.{state_of, IsDebuggerOf, IsServing}
-use Rattle.jc_serve.specs.Marks.{Served, session_in, after_session}
+use Rattle.jc_serve.specs.Marks.{session_in}
+use Rattle.jc_serve.specs.Moves.{SharesFirst}
 
 -- ---- parts of a session
 
@@ -221,6 +222,26 @@ module _ (s : Scenario) (start : Network) (x : AnyServed) (v : IsServing s start
 -- ---- what a session's request leads to
 
 module _ (x : AnyServed) (q : Request) (d : Seen) (answer : List ℕ) (old : IsDebugger x.here) (trail : IsDebugger d) (own : IsOwn q → ⊥) (g : GivesServed x.scenario.given.items x.here q d answer) where
+  -- an event was made, up to which the debugger beside has the same schedule
+  pub shares : (n : ℕ) → n ≡ length x.here.traces → IsAct q → n < length d.traces → IsInService x → SharesFirst x.aside d n
+  shares n at act lt (s, start, v) =
+      let was = length x.here.traces in
+      let made = event_made s start x v q d trail answer g own act (omega (arith, lt, at)) in
+      let schedule : d.schedule ≡ take was x.here.schedule ++ made.0 ∷ [] = ap (λ (S : Session). S.schedule) made.1 in
+      let within = old.within in
+      let many = length-take-le was x.here.schedule within in
+      let longer = ap length v.same in
+      let first : take was d.schedule ≡ take was x.here.schedule =
+      ap (take was) schedule
+      ∙ (ap (λ (k : ℕ). take k (take was x.here.schedule ++ made.0 ∷ [])) (sym many) ∙ take-append_seam (take was x.here.schedule) (made.0 ∷ [])) in
+      let both : take n d.schedule ≡ take n x.here.schedule = subst (λ (k : ℕ). take k d.schedule ≡ take k x.here.schedule) (sym at) first in
+      record {
+        start = v.aside.is_start ∙ sym (debugger s start x v q d trail answer g own).is_start;
+        first = ap (take n) v.same ∙ sym both;
+        within = omega (arith, at, within, longer);
+        made = lt;
+      }
+
   -- an event was made, which the debugger beside has made too
   pub with_event : (y : AnyServed) (n : ℕ)
       → n ≡ length x.here.traces

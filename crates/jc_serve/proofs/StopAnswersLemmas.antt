@@ -1,14 +1,11 @@
 -- Of `Answers` and `AnswerOf`: the answers to requests where a given event is stuck.
-use Rattle.std.proofs.Common.{◌≡◌, ◌≢◌, ℕ, zero, suc, ◌+◌, ◌<◌, ◌≤◌, Bool, List, [], length, Option, Some, None, Result, Ok, Err, inl, inr, refl, sym, ap, subst, ◌∙◌, arith}
+use Rattle.std.proofs.Common.{◌≡◌, ◌≢◌, ℕ, Bool, List, [], Option, Some, None, Result, Ok, Err, refl, sym, ap, subst, ◌∙◌, arith}
 use Rattle.std.specs.Borrow.{Bor}
 use Rattle.std.proofs.lemmas.Option.{same_Some}
 use Rattle.jc_rules.specs.declared.refusal.Refusal.{Refusal}
 use Rattle.jc_rules.specs.declared.refusal.Refusal.TheVariants as E
-use Rattle.jc_rules.specs.Step.{Network}
-use Rattle.jc_printer.specs.Canon.{quoted}
-use Rattle.jc_scenario.specs.Canon.{canon}
 use Rattle.jc_scenario.specs.Views.{scenario_view}
-use Rattle.jc_scenario.specs.WellFormed.{Scenario, IsScenario, IsWellFormedScenario}
+use Rattle.jc_scenario.specs.WellFormed.{Scenario}
 use Rattle.jc_session.specs.declared.request.Request.{Request as AnyRequest}
 use Rattle.jc_session.specs.declared.request.Request.TheVariants as R
 use Rattle.jc_session.specs.Answers.{IsStrange, IsMisspelled}
@@ -24,16 +21,14 @@ use Rattle.jc_answers.specs.Refusals.{refusal_answer, IsRefusedText}
 use Rattle.jc_looks.specs.declared.fault.LookFault.{LookFault}
 use Rattle.jc_looks.specs.declared.fault.LookFault.TheVariants as F
 use Rattle.jc_looks.specs.declared.looks.Look.{Look}
-use Rattle.jc_looks.specs.declared.looks.Look.TheVariants as L
 use Rattle.jc_looks.specs.LookFaults.{RefusesBy, IsRefusedAt}
-use Rattle.jc_listings.specs.declared.journals.Details.{Details}
-use Rattle.jc_listings.specs.Journals.{AnswersJournal, AnswersEvent}
-use Rattle.jc_listings.specs.Positions.{count_of, IsAt}
+use Rattle.jc_listings.specs.Journals.{AnswersEvent}
+use Rattle.jc_listings.specs.Positions.{count_of}
 use Rattle.jc_listings.proofs.JournalPartsLemmas.{not_behind}
 use Rattle.jc_serve.specs.declared.stuck.GivenStop.{GivenStop as AnyGivenStop}
 use Rattle.jc_serve.specs.Answers as A
 use Rattle.jc_serve.specs.Answers.{position_in, IsOfText, IsReached, IsNowhere, IsBadRequest, IsGoodRequest, AnswersStuck}
-use Rattle.jc_serve.specs.Asking.{IsLookRequest, IsBadLook, AsksLook, IsOneOrEach, IsStrangeAnswer}
+use Rattle.jc_serve.specs.Asking.{AsksLook, IsStrangeAnswer}
 use Rattle.jc_serve.specs.AnswerOf as O
 use Rattle.jc_serve.specs.AnswerOf.{IsStopped, IsOfStop, IsReachedBy, IsUnreached, IsStopLook, ShowsAt, IsPlain, AnswersStop}
 use Rattle.jc_serve.specs.Subjects.{GivenStop, given_stuck_answer}

@@ -1,9 +1,7 @@
 -- Of `AnswerOf`: what is answered where a given event is stuck.
-use Rattle.std.proofs.Common.{◌≡◌, ℕ, zero, suc, ◌+◌, ◌-◌, ◌<◌, ◌≤◌, Bool, true, false, nat_lt, if◌then◌else◌, List, [], ◌∷◌, ◌++◌, length, take, slice_get, Option, Some, None, Ok, Err, codes, refl, sym, ap, subst, ◌∙◌, arith, rules}
+use Rattle.std.proofs.Common.{◌≡◌, ℕ, suc, ◌+◌, ◌-◌, ◌<◌, ◌≤◌, Bool, true, false, nat_lt, if◌then◌else◌, List, length, take, Option, Some, None, Ok, Err, refl, sym, ap, subst, ◌∙◌, arith, rules}
 use Rattle.std.specs.List.{All}
 use Rattle.std.proofs.lemmas.List.Elements.{All-append}
-use Rattle.jc_rules.specs.declared.operation.Event.{Event}
-use Rattle.jc_rules.specs.declared.refusal.Refusal.{Refusal}
 use Rattle.jc_rules.specs.Refused.{Cause}
 use Rattle.jc_rules.specs.Step.{Network, AfterIn}
 use Rattle.jc_printer.specs.Canon.{AreNamed}
@@ -17,7 +15,6 @@ use Rattle.jc_dump.specs.Lines.{IsNamedStuck}
 use Rattle.jc_journal.specs.StuckLine.{stuck_event_line}
 use Rattle.jc_session.proofs.AnswerOfLemmas.{of_all}
 use Rattle.jc_requests.specs.Asked.{Position}
-use Rattle.jc_answers.specs.Refusals.{refusal_answer}
 use Rattle.jc_looks.specs.declared.fault.LookFault.{LookFault}
 use Rattle.jc_looks.specs.declared.fault.LookFault.TheVariants as F
 use Rattle.jc_looks.specs.declared.looks.Look.{Look}
@@ -25,7 +22,7 @@ use Rattle.jc_looks.specs.LookFaults.{RefusesBy}
 use Rattle.jc_answers.specs.JsonTexts.{unended}
 use Rattle.jc_looks.specs.Looks.{ShowsLook}
 use Rattle.jc_listings.specs.declared.journals.Details.{Details}
-use Rattle.jc_listings.specs.Journals.{AnswersEvent, IsLineBehind, first, tells}
+use Rattle.jc_listings.specs.Journals.{AnswersEvent, IsLineBehind, tells}
 use Rattle.jc_listings.specs.Positions.{all_events, number_behind, count_of, IsAt}
 use Rattle.jc_serve.specs.declared.stuck.GivenStop.{GivenStop as AnyGivenStop}
 use Rattle.jc_serve.specs.AnswerOf.{IsStopped, IsOfStop, IsNowhereAnswer, IsReachedBy, IsUnreached, here, nowhere, behind, ShowsAt}

@@ -1,27 +1,59 @@
 -- Of `Subjects` and `AnswerOf`: what a text is, before anything is asked.
-use Rattle.std.proofs.Common.{◌≡◌, ℕ, ◌+◌, ◌-◌, ◌<◌, ◌≤◌, List, [], length, take, replicate, slice_get, Some, None, refl, sym, ap, subst, ◌∙◌, arith}
+use Rattle.std.proofs.Common.{◌≡◌, ℕ, ◌-◌, ◌<◌, ◌≤◌, List, [], length, take, replicate, codes, true, false, Some, None, Vec, Global, ◌≢◌, refl, sym, ap, subst, ◌∙◌, arith}
 use Rattle.std.proofs.lemmas.Option.{slice_get_within}
 use Rattle.jc_rules.specs.declared.limits.TheConstants.{MAX_BREAKS}
 use Rattle.jc_rules.specs.declared.operation.Event.{Event}
+use Rattle.jc_rules.specs.declared.refusal.Refusal.{Refusal}
 use Rattle.jc_rules.specs.Step.{Network, AfterIn}
 use Rattle.jc_rules.proofs.VersionLemmas.{one_after_in}
+use Rattle.jc_parser.specs.declared.fault.ScenarioFault.{ScenarioFault}
+use Rattle.jc_parser.specs.declared.fault.ScenarioFault.TheVariants as ScenarioFaults
+use Rattle.jc_parser.specs.Faults.{fault_refusal}
+use Rattle.jc_scenario.specs.Faults.{IsFault}
 use Rattle.jc_scenario.specs.Views.{scenario_view}
 use Rattle.jc_scenario.specs.WellFormed.{Scenario, IsScenario, IsWellFormedScenario}
 use Rattle.jc_network.specs.declared.fault.Stuck.{Stuck}
 use Rattle.jc_network.specs.Given.{before_given, IsStart, IsStarted, IsGivenFault}
-use Rattle.jc_network.specs.Steps.{stuck_for}
 use Rattle.jc_debug.specs.DebuggerState.{Session, new_session}
-use Rattle.jc_debug.specs.Invariant.{Seen, start_of, session_of}
+use Rattle.jc_debug.specs.Invariant.{start_of, session_of}
 use Rattle.jc_debug.proofs.RepliesLemmas.{begun_at}
 use Rattle.jc_serve.specs.declared.served.Served.{Served as AnyServed}
 use Rattle.jc_serve.specs.declared.stuck.GivenStop.{GivenStop as AnyGivenStop}
 use Rattle.jc_serve.specs.declared.subjects.Subject.TheVariants as S
-use Rattle.jc_serve.specs.AnswerOf.{IsStopped, IsSomeStop, IsSubjectOf, IsNewFor}
-use Rattle.jc_serve.specs.InMemory.{marks_of, state_of, IsDebuggerOf, IsServing}
-use Rattle.jc_serve.specs.Marks.{Served, new_served}
-use Rattle.jc_answers.specs.JsonTexts.{NamedText}
-use Rattle.jc_serve.specs.Subjects.{Subject, GivenStop, no_scenario, stuck_given, served, is_stuck, is_served, counts_answer, IsCounts}
+use Rattle.jc_serve.specs.AnswerOf.{IsSomeStop, IsSubjectOf, IsNewFor}
+use Rattle.jc_serve.specs.InMemory.{marks_of, state_of, IsServing}
+use Rattle.jc_serve.specs.Marks.{new_served}
+use Rattle.jc_answers.specs.JsonTexts.{NamedText, text_member}
+use Rattle.jc_answers.specs.Refusals.{IsRefusedTextWith, IsRefusedText}
+use Rattle.jc_expected.specs.Expected.{IsExpected}
+use Rattle.jc_serve.specs.Subjects.{Subject, GivenStop, no_scenario, stuck_given, served, is_refused, is_stuck, is_served, tells_expected, IsTextAnswer, IsFaultAnswer, counts_answer, IsCounts}
 use Rattle.jc_serve.proofs.PositionsLemmas.{get_within, at_given}
+
+-- ---- where a text is refused
+
+pub misfit_told : (text : List ℕ) (refusal : Refusal) (place : ℕ) (answer : List ℕ) → tells_expected refusal ≡ true
+    → (list : List ℕ) × IsExpected text place list × IsRefusedTextWith (text_member (codes "expected") list) text refusal place answer
+    → IsTextAnswer text refusal place answer
+misfit_told text refusal place answer is (list, expected, written) =
+    record { more = text_member (codes "expected") list; expected = rw is (list, expected, refl); written = written }
+
+pub other_told : (text : List ℕ) (refusal : Refusal) (place : ℕ) (answer : List ℕ) → tells_expected refusal ≡ false → IsRefusedText text refusal place answer → IsTextAnswer text refusal place answer
+other_told text refusal place answer is written = record { more = []; expected = rw is refl; written = written }
+
+-- no answer says that there was no memory
+pub no_memory : (text : List ℕ) (fault : ScenarioFault) (answer : List ℕ) → IsFaultAnswer text fault answer → fault ≢ ScenarioFaults.Memory
+no_memory text fault answer h e = none_is_some (ap fault_refusal (sym e) ∙ h.is_refusal)
+  where
+    none_is_some : None ≡ Some h.refusal → ⊥
+    none_is_some k = cc
+
+pub refused_new : (text : List ℕ) (fault : ScenarioFault) (why : Vec ℕ Global) → IsFault text fault → IsFaultAnswer text fault why.items → IsNewFor text (S.NoScenario why)
+refused_new text fault why is says = (no_scenario fault, is_refused is, says)
+
+pub counts_refused : (why : Vec ℕ Global) (answer : List ℕ) → answer ≡ why.items → (text : List ℕ) (H : Subject) → IsSubjectOf text H (S.NoScenario why) → IsCounts text H answer
+counts_refused why answer is text (no_scenario fault) h = subst (λ (a : List ℕ). IsFaultAnswer text fault a) (sym is) h
+counts_refused why answer is text (stuck_given s stop) h = absurd h
+counts_refused why answer is text (served s start A) h = absurd h
 
 -- ---- where a given event is stuck
 

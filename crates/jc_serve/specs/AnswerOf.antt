@@ -9,6 +9,7 @@ use Rattle.jc_rules.specs.declared.refusal.Refusal.{Refusal}
 use Rattle.jc_rules.specs.declared.rule.Rule.{Rule}
 use Rattle.jc_rules.specs.Refused.{Cause}
 use Rattle.jc_rules.specs.Step.{Network, StepIn}
+use Rattle.jc_parser.specs.declared.fault.ScenarioFault.{ScenarioFault}
 use Rattle.jc_scenario.specs.Views.{scenario_view}
 use Rattle.jc_scenario.specs.WellFormed.{Scenario, IsScenario, IsWellFormedScenario}
 use Rattle.jc_network.specs.Steps.{stuck_for}
@@ -32,11 +33,11 @@ use Rattle.jc_serve.specs.declared.served.Served.{Served as AnyServed}
 use Rattle.jc_serve.specs.declared.stuck.GivenStop.{GivenStop as AnyGivenStop}
 use Rattle.jc_serve.specs.declared.subjects.Subject.{Subject as AnySubject}
 use Rattle.jc_serve.specs.declared.subjects.Subject.TheVariants as S
-use Rattle.jc_serve.specs.Answers.{position_in, IsOfText, AnswersServed, AnswersStuck, AnswersAbout, SetsMark}
+use Rattle.jc_serve.specs.Answers.{position_in, IsOfText, AnswersServed, AnswersStuck, AnswersRefused, AnswersAbout, SetsMark}
 use Rattle.jc_serve.specs.Asking.{IsLookRequest}
 use Rattle.jc_serve.specs.InMemory.{state_of, IsServing}
 use Rattle.jc_serve.specs.Marks.{Mark, Served, moved_to}
-use Rattle.jc_serve.specs.Subjects.{Subject, IsSubject, GivenStop, no_scenario, stuck_given, served, given_stuck_answer}
+use Rattle.jc_serve.specs.Subjects.{Subject, IsSubject, GivenStop, no_scenario, stuck_given, served, IsFaultAnswer, given_stuck_answer}
 
 -- ---- parts of a session
 
@@ -212,7 +213,7 @@ IsOfStop is x answer = (s : Scenario) (stop : GivenStop s) → IsStopped s stop 
 
 -- the value in memory is this subject, of this text
 abbrev pub IsSubjectOf : List ℕ → Subject → AnySubject → Type 0
-IsSubjectOf text (no_scenario fault) (S.NoScenario told) = told ≡ fault
+IsSubjectOf text (no_scenario fault) (S.NoScenario why) = IsFaultAnswer text fault why.items
 IsSubjectOf text (stuck_given s stop) (S.StuckGiven x) = IsScenario text s × IsStopped s stop x
 IsSubjectOf text (served s start A) (S.Served x) = IsScenario text s × IsServing s start x × (state_of x ≡ A)
 IsSubjectOf text _ _ = ⊥
@@ -224,6 +225,11 @@ IsNewFor text x = (subject : Subject) × IsSubject text subject × IsSubjectOf t
 -- it is some subject of the text
 abbrev pub IsHeldFor : List ℕ → AnySubject → Type 0
 IsHeldFor text x = (subject : Subject) × IsSubjectOf text subject x
+
+-- The request is answered so, where the text is refused by the first answer.
+abbrev pub AnswersRefusedBy : List ℕ → Asked → List ℕ → Type 0
+AnswersRefusedBy why request answer =
+    (text : List ℕ) (fault : ScenarioFault) → IsFaultAnswer text fault why → AnswersRefused text fault request answer
 
 -- The request leads from the one to the other, and this is its answer.
 abbrev pub AnswersOn : List ℕ → AnySubject → Asked → AnySubject → List ℕ → Type 0

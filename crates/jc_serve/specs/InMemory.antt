@@ -7,6 +7,7 @@ use Rattle.jc_rules.specs.Step.{Network, StepIn}
 use Rattle.jc_scenario.specs.Views.{scenario_view}
 use Rattle.jc_scenario.specs.WellFormed.{Scenario, IsWellFormedScenario}
 use Rattle.jc_network.specs.Given.{IsStart}
+use Rattle.jc_journal.specs.EventLine.{IsBeforeLast}
 use Rattle.jc_debug.specs.DebuggerState.{IsNetworkAt}
 use Rattle.jc_debug.specs.Invariant.{Seen, start_of}
 use Rattle.jc_serve.specs.declared.marks.Mark.{Mark as AnyMark}
@@ -62,7 +63,7 @@ NamesHere here marks j =
     × (slice_get (marks_of marks) j ≡ Some (Some b))
     × MarkNames (start_of here) here.schedule b (length here.traces)
 
--- The event led from the network of the debugger that is behind to that of the other.
+-- The event led, as the last step, from the network of the debugger that is behind to that of the other.
 pub record Led (aside here : Seen) (event : Event) : Type 0 where
   pub before : ℕ
   pub rows : List (Rule × ℕ)
@@ -70,3 +71,4 @@ pub record Led (aside here : Seen) (event : Event) : Type 0 where
   pub is : slice_get here.schedule before ≡ Some event
   pub is_before : IsNetworkAt (start_of here) here.schedule before aside.net.history.now
   pub step : StepIn aside.net.history.now event here.net.history.now rows
+  pub last : IsBeforeLast aside.net.history.now here.net.history

@@ -1,8 +1,9 @@
 -- What moves of a session in memory come to, from one event to whole runs: the contracts of runs cite it.
-use Rattle.std.specs.Prelude.{◌≡◌, ℕ, ◌+◌, List, length, Option, Some, None}
+use Rattle.std.specs.Prelude.{◌≡◌, ℕ, ◌+◌, ◌<◌, ◌≤◌, List, length, take, Option, Some, None}
+use Rattle.jc_rules.specs.Step.{Network}
 use Rattle.jc_debug.specs.declared.fault.RunEnd.{RunEnd}
 use Rattle.jc_debug.specs.declared.fault.RunEnd.TheVariants as E
-use Rattle.jc_debug.specs.DebuggerState.{IsLeast, RunOutcome}
+use Rattle.jc_debug.specs.DebuggerState.{IsNetworkAt, IsLeast, RunOutcome}
 use Rattle.jc_debug.specs.Invariant.{Seen, IsDebugger, IsMoved, start_of}
 use Rattle.jc_debug.specs.Moves.{IsEnd, IsToldAt}
 use Rattle.jc_serve.specs.declared.marks.Mark.{Mark as AnyMark}
@@ -14,6 +15,17 @@ use Rattle.jc_serve.specs.Marks.{RunsTo, RunsBack}
 pub record ArePaired (x : AnyServed) : Type 0 where
   pub start : start_of x.aside ≡ start_of x.here
   pub schedule : x.aside.schedule ≡ x.here.schedule
+
+-- events lead to this position of the debugger's schedule
+abbrev pub HasNetworkAt : Seen → ℕ → Type 0
+HasNetworkAt d n = (network : Network) × IsNetworkAt (start_of d) d.schedule n network
+
+-- The debugger beside has the start and the first n events of the one here, which has made the next one too.
+pub record SharesFirst (aside here : Seen) (n : ℕ) : Type 0 where
+  pub start : start_of aside ≡ start_of here
+  pub first : take n aside.schedule ≡ take n here.schedule
+  pub within : n ≤ length aside.schedule
+  pub made : n < length here.traces
 
 -- The session is at position n. Its scenario and breakpoints are as they were, and so are the names, starts and schedules
 -- of its debuggers.

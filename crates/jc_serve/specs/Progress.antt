@@ -1,5 +1,5 @@
 -- What the loop of `serve` keeps, and what one request comes to in memory: the contracts of private functions cite it.
-use Rattle.std.specs.Prelude.{◌≡◌, ℕ, ◌+◌, List, [], ◌∷◌, ◌++◌, length, Option, Some, None}
+use Rattle.std.specs.Prelude.{◌≡◌, ℕ, ◌+◌, List, ◌++◌, length, Option, Some, None}
 use Rattle.jc_io.specs.declared.io.ReadFault.{ReadFault}
 use Rattle.jc_io.specs.declared.io.ReadFault.TheVariants as R
 use Rattle.jc_io.specs.Written.{Stream, Wrote}
@@ -35,11 +35,6 @@ IsHeld x = (H : Held) × IsHeldAs H x
 abbrev pub LeadsOn : AnyHeld → Turn → AnyHeld → List ℕ → Type 0
 LeadsOn old turn new answer =
     (H : Held) → IsHeldAs H old → (I : Held) × AnswersTurn H turn I answer × IsHeldAs I new
-
--- The request leads from the one to the other, and its answer is a line that went out so.
-abbrev pub GoesOut : (List ℕ → Stream → Stream → Type 0) → AnyHeld → Turn → AnyHeld → Stream → Stream → Type 0
-GoesOut Went old turn new out_old out_new =
-    (answer : List ℕ) × LeadsOn old turn new answer × Went (answer ++ 10 ∷ []) out_old out_new
 
 -- ---- all requests so far
 

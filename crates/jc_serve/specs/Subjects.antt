@@ -1,8 +1,8 @@
 -- What a text is to `serve`, and the answers about it as a whole.
-use Rattle.std.specs.Prelude.{◌≡◌, ℕ, ◌<◌, List, [], ◌∷◌, ◌++◌, length, sum_by, Option, Some, None, codes}
+use Rattle.std.specs.Prelude.{◌≡◌, ℕ, ◌<◌, List, [], ◌++◌, length, sum_by, Bool, true, false, Some, codes}
 use Rattle.jc_rules.specs.declared.operation.Event.{Event}
 use Rattle.jc_rules.specs.declared.refusal.Refusal.{Refusal}
-use Rattle.jc_rules.specs.declared.refusal.Refusal.TheVariants.{GivenStuck}
+use Rattle.jc_rules.specs.declared.refusal.Refusal.TheVariants.{Unexpected, EndOfText, GivenStuck}
 use Rattle.jc_rules.specs.Refused.{Cause}
 use Rattle.jc_rules.specs.Step.{Network}
 use Rattle.jc_parser.specs.declared.fault.ScenarioFault.{ScenarioFault}
@@ -11,7 +11,8 @@ use Rattle.jc_scenario.specs.Faults.{IsFault}
 use Rattle.jc_scenario.specs.WellFormed.{Scenario, IsScenario}
 use Rattle.jc_network.specs.Given.{IsStart}
 use Rattle.jc_answers.specs.JsonTexts.{NamedText, number_member, text_member, object_text}
-use Rattle.jc_answers.specs.Refusals.{refused_object, refusal_members, IsRefusedText}
+use Rattle.jc_answers.specs.Refusals.{refused_object, refusal_members, IsRefusedTextWith}
+use Rattle.jc_expected.specs.Expected.{IsExpected}
 use Rattle.jc_listings.specs.Journals.{stuck_line_behind}
 use Rattle.jc_serve.specs.Marks.{Served, new_served}
 use Rattle.jc_listings.specs.Positions.{StopsAt}
@@ -44,13 +45,31 @@ pub data IsSubject (text : List ℕ) : Subject → Type 0 where
 
 -- ---- answers about a text as a whole
 
+-- The refusals of a token that doesn't fit, and of a text that ends too early.
+abbrev pub tells_expected : Refusal → Bool
+tells_expected Unexpected = true
+tells_expected EndOfText = true
+tells_expected refusal = false
+
+-- the member of what could stand at the offset, where it is there
+abbrev pub IsExpectedMember : List ℕ → ℕ → Bool → List NamedText → Type 0
+IsExpectedMember text place true more =
+    (list : List ℕ) × IsExpected text place list × (more ≡ text_member (codes "expected") list)
+IsExpectedMember text place false more = more ≡ []
+
+-- the answer that refuses a scenario's text at an offset
+pub record IsTextAnswer (text : List ℕ) (refusal : Refusal) (place : ℕ) (answer : List ℕ) : Type 0 where
+  pub more : List NamedText
+  pub expected : IsExpectedMember text place (tells_expected refusal) more
+  pub written : IsRefusedTextWith more text refusal place answer
+
 -- why the text is refused
 pub record IsFaultAnswer (text : List ℕ) (fault : ScenarioFault) (answer : List ℕ) : Type 0 where
   pub refusal : Refusal
   pub place : ℕ
   pub is_refusal : fault_refusal fault ≡ Some refusal
   pub is_place : fault_offset fault ≡ Some place
-  pub written : IsRefusedText text refusal place answer
+  pub written : IsTextAnswer text refusal place answer
 
 -- the journal's line of the given event that is stuck
 abbrev pub stuck_line_of : (s : Scenario) → GivenStop s → List ℕ

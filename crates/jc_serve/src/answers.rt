@@ -20,31 +20,30 @@ ghost use Rattle.jc_requests.specs.Views.{position_view, at_view, between_view, 
 ghost use Rattle.jc_answers.specs.JsonTexts.{array_text};
 ghost use Rattle.jc_looks.specs.LookFaults.{Finds, AnswersBy};
 ghost use Rattle.jc_looks.specs.Looks.{IsWithin};
-ghost use Rattle.jc_journal.specs.Before.{IsNoted};
-ghost use Rattle.jc_journal.specs.EventLine.{AreEffects};
+ghost use Rattle.jc_journal.specs.EventLine.{IsBeforeLast, AreEffects};
 ghost use Rattle.jc_journal.specs.Parts.{rows_of, differences_in};
 ghost use Rattle.jc_listings.specs.Journals.{AnswersEvent, AnswersJournal, rules_asked};
 ghost use Rattle.jc_listings.specs.Positions.{count_at};
 ghost use Rattle.jc_serve.specs.Asking.{IsLookRequest, LooksAt};
-ghost use Rattle.jc_serve.specs.Answers.{IsNoRule, IsOwn, mark_answers, AnswersRefused};
+ghost use Rattle.jc_serve.specs.Answers.{IsNoRule, IsOwn, mark_answers};
 ghost use Rattle.jc_choice.specs.Laws.{with_schedule};
-ghost use Rattle.jc_serve.specs.AnswerOf.{IsAct, IsLineHere, IsWithinLimit, IsOfWhole, IsInService, LeadsTo, ShowsIn, ShowsBy, ShowsAt, AnswersNowhere, IsHeldFor, AnswersOn};
+ghost use Rattle.jc_serve.specs.AnswerOf.{IsAct, IsLineHere, IsWithinLimit, IsOfWhole, IsInService, LeadsTo, ShowsIn, ShowsBy, ShowsAt, AnswersNowhere, IsHeldFor, AnswersRefusedBy, AnswersOn};
 ghost use Rattle.jc_serve.specs.InMemory.{IsServing, IsBehind};
 
 use crate::asking::look_of;
 use crate::served::{Served, told_marks};
-use crate::subjects::{Subject, fault_answer};
+use crate::subjects::Subject;
 use crate::texts::{answered, counted, journal, quit_answer, stopped};
 use jc_answers::{quoted, refused, unended};
 use jc_debug::DebugFault;
 use jc_effects::Effects;
-use jc_journal::{Before, NumberedEvent, event_effects, event_line};
+use jc_journal::{NumberedEvent, event_effects, event_line};
 use jc_listings::{Details, line_behind, places, woven_answer};
 use jc_looks::{Look, LookFault, flag, given_network, shown};
 use jc_replies::answer_to;
 use jc_requests::{Asked, Position};
-use jc_rules::{Event, Refusal, Rule, Version};
-use jc_scenario::{Scenario, ScenarioFault, print};
+use jc_rules::{Event, Refusal, Rule, Run, Version};
+use jc_scenario::{Scenario, print};
 use jc_session::{Request, rule_of};
 use std::alloc::{AllocError, Global};
 
@@ -57,49 +56,33 @@ fn is_no_rule(name: &str) -> bool
     rule_of(Version::Two, name).is_none()
 }
 
-fn rule_refused(
-    alloc: Global,
-    text: &[u8],
-    fault: &ScenarioFault,
-    name: &str,
-) -> Result<Vec<u8>, AllocError>
-    ensures { IfOk result (λ answer.
-        AnswersRefused text.now fault.now (K.of_session (Q.break_rule name.now)) answer.items) }
+fn rule_refused(alloc: Global, why: &[u8], name: &str) -> Result<Vec<u8>, AllocError>
+    ensures { IfOk result (λ answer. AnswersRefusedBy why.now (K.of_session (Q.break_rule name.now)) answer.items) }
 {
     if is_no_rule(name) {
         refused(alloc, Refusal::BadLine)
     } else {
-        fault_answer(alloc, text, fault)
+        why.to_vec(alloc)
     }
 }
 
-fn session_refused(
-    alloc: Global,
-    text: &[u8],
-    fault: &ScenarioFault,
-    request: Request<'_>,
-) -> Result<Vec<u8>, AllocError>
-    ensures { IfOk result (λ answer.
-        AnswersRefused text.now fault.now (K.of_session (request_view request.entry)) answer.items) }
+fn session_refused(alloc: Global, why: &[u8], request: Request<'_>) -> Result<Vec<u8>, AllocError>
+    ensures { IfOk result (λ answer. AnswersRefusedBy why.now (K.of_session (request_view request.entry)) answer.items) }
 {
     match request {
         Request::Quit => quit_answer(alloc),
-        Request::BreakRule(name) => rule_refused(alloc, text, fault, name),
-        _ => fault_answer(alloc, text, fault),
+        Request::BreakRule(name) => rule_refused(alloc, why, name),
+        _ => why.to_vec(alloc),
     }
 }
 
-fn answer_refused(
-    alloc: Global,
-    text: &[u8],
-    fault: &ScenarioFault,
-    request: Asked<'_>,
-) -> Result<Vec<u8>, AllocError>
-    ensures { IfOk result (λ answer. AnswersRefused text.now fault.now (asked_view request.entry) answer.items) }
+/// The answer about a text that is refused. `why` is the one that says so.
+fn answer_refused(alloc: Global, why: &[u8], request: Asked<'_>) -> Result<Vec<u8>, AllocError>
+    ensures { IfOk result (λ answer. AnswersRefusedBy why.now (asked_view request.entry) answer.items) }
 {
     match request {
-        Asked::OfSession(request) => session_refused(alloc, text, fault, request),
-        _ => fault_answer(alloc, text, fault),
+        Asked::OfSession(request) => session_refused(alloc, why, request),
+        _ => why.to_vec(alloc),
     }
 }
 
@@ -237,7 +220,7 @@ impl Served {
     // ---- events
 
     /// The rules of the event that led to the position of `here`, where they are asked for.
-    fn rules_here(&self, details: Details) -> Option<&[(Rule, u64)]>
+    fn rules_here(&self, details: Details) -> Option<&[Run]>
         requires { 0 < length self.now.here.traces }
         ensures { (rows : List (AnyRule × ℕ)) × IsTraceOf self.now.here rows
             × (rows_of result ≡ rules_asked details.trace rows) }
@@ -251,18 +234,17 @@ impl Served {
         &self,
         alloc: Global,
         event: &Event,
-        before: &Before,
         details: Details,
     ) -> Result<Option<Effects>, AllocError>
         requires made { (rows : List (AnyRule × ℕ))
             × StepIn self.now.aside.net.history.now event.now self.now.here.net.history.now rows }
-        requires noted { IsNoted event.now self.now.aside.net.history.now.states before.now }
+        requires last { IsBeforeLast self.now.aside.net.history.now self.now.here.net.history }
         ensures { IfOk result (λ effects. (rows : List (AnyRule × ℕ))
             → (made : StepIn self.now.aside.net.history.now event.now self.now.here.net.history.now rows)
             → AreEffects details.effects event.now made.step.before made.step.after (differences_in effects)) }
     {
         if details.effects {
-            event_effects(alloc, self.aside.net(), self.here.net(), event, before)
+            event_effects(alloc, self.aside.net(), self.here.net(), event)
         } else {
             Ok(None)
         }
@@ -276,8 +258,9 @@ impl Served {
     {
         let number = self.here.position();
         let event = self.here.schedule()[number as usize - 1];
-        let before = Before::of(alloc, self.aside.net(), &event)?;
-        let effects = self.effects_here(alloc, &event, &before, details)?;
+        // For its contract: the debugger aside is at the network before the event.
+        let _aside = self.aside.net();
+        let effects = self.effects_here(alloc, &event, details)?;
         let numbered = NumberedEvent {
             event,
             number,
@@ -287,7 +270,6 @@ impl Served {
             alloc,
             self.here.net(),
             &numbered,
-            &before,
             self.rules_here(details),
             effects.as_ref(),
         )?;
@@ -540,7 +522,7 @@ pub(crate) fn answer(
         AnswersOn text.now subject.old (asked_view request.entry) subject.new answer.items) }
 {
     match subject {
-        Subject::NoScenario(fault) => answer_refused(alloc, text, fault, request),
+        Subject::NoScenario(why) => answer_refused(alloc, why.as_slice(), request),
         Subject::StuckGiven(stop) => answered(stop.answer(alloc, text, request)),
         Subject::Served(served) => answered(served.answer(alloc, text, request)),
     }

@@ -6,13 +6,14 @@ ghost use Rattle.jc_rules.specs.declared.rule.Rule.{Rule as AnyRule};
 ghost use Rattle.jc_rules.specs.Step.{StepIn};
 ghost use Rattle.jc_debug.specs.DebuggerState.{IsLeast};
 ghost use Rattle.jc_debug.specs.Invariant.{start_of, IsDebugger};
+ghost use Rattle.jc_journal.specs.EventLine.{IsBeforeLast};
 ghost use Rattle.jc_serve.specs.InMemory.{mark_of, marks_of, IsBehind, Led};
 ghost use Rattle.jc_serve.specs.Marks.{Mark as AnyMark, MarkNames, Changes, operation, place};
 ghost use Rattle.jc_serve.specs.Moves.{IsNamedBy};
 
 use jc_debug::{Break, Debugger};
 use jc_effects::differs_at;
-use jc_journal::{Before, event_effects, event_op_id};
+use jc_journal::{event_effects, event_op_id};
 use jc_rules::limits::MAX_BREAKS;
 use jc_rules::{Cursor, Event, Id};
 use std::alloc::{AllocError, Global};
@@ -100,16 +101,16 @@ fn last_event(aside: &Debugger, here: &Debugger) -> Event
 }
 
 /// Whether the event that led to the position made or applied the operation. `aside` is before that event.
-fn has_made(alloc: Global, aside: &Debugger, here: &Debugger, id: Id) -> Result<bool, AllocError>
+fn has_made(aside: &Debugger, here: &Debugger, id: Id) -> bool
     requires { IsBehind aside.now here.now }
-    ensures { IfOk result (λ names. IsTrue names
-        ↔ MarkNames (start_of here.now) here.now.schedule (operation id) (length here.now.traces)) }
+    ensures { IsTrue result
+        ↔ MarkNames (start_of here.now) here.now.schedule (operation id) (length here.now.traces) }
 {
-    let event = last_event(aside, here);
-    let before = Before::of(alloc, aside.net(), &event)?;
-    match event_op_id(here.net(), &event, &before) {
-        Some(made) => Ok(made == id),
-        None => Ok(false),
+    // For its contract: the event led from the one network to the other.
+    let _event = last_event(aside, here);
+    match event_op_id(here.net()) {
+        Some(made) => made == id,
+        None => false,
     }
 }
 
@@ -121,13 +122,14 @@ fn changes_at(
     event: &Event,
     cursor: &Cursor,
 ) -> Result<bool, AllocError>
-    requires { (rows : List (AnyRule × ℕ)) × StepIn aside.now.net.history.now event.now here.now.net.history.now rows }
+    requires made { (rows : List (AnyRule × ℕ))
+        × StepIn aside.now.net.history.now event.now here.now.net.history.now rows }
+    requires last { IsBeforeLast aside.now.net.history.now here.now.net.history }
     ensures { IfOk result (λ changes. (rows : List (AnyRule × ℕ))
         → (made : StepIn aside.now.net.history.now event.now here.now.net.history.now rows)
         → IsTrue changes ↔ Changes event.now made.step.before made.step.after cursor.now) }
 {
-    let before = Before::of(alloc, aside.net(), event)?;
-    match event_effects(alloc, aside.net(), here.net(), event, &before)? {
+    match event_effects(alloc, aside.net(), here.net(), event)? {
         Some(effects) => Ok(differs_at(&effects, cursor.path.as_slice(), &cursor.last)),
         None => Ok(false),
     }
@@ -166,7 +168,7 @@ fn names_here(
 {
     match mark {
         Mark::Session(b) => Ok(here.names(*b)),
-        Mark::Operation(id) => has_made(alloc, aside, here, *id),
+        Mark::Operation(id) => Ok(has_made(aside, here, *id)),
         Mark::Place { replica, cursor } => has_changed(alloc, aside, here, *replica, cursor),
     }
 }

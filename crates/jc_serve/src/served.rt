@@ -14,12 +14,13 @@ ghost use Rattle.jc_serve.specs.Answers.{named_mark, session_mark, mark_members,
 ghost use Rattle.jc_serve.specs.AnswerOf.{with_here, with_aside, SetsIn, LeadsTo, IsFollowed};
 ghost use Rattle.jc_serve.specs.InMemory.{mark_of, marks_of};
 ghost use Rattle.jc_serve.specs.Marks.{operation, place};
+ghost use Rattle.jc_serve.specs.Moves.{ArePaired, HasNetworkAt, SharesFirst};
 
 use crate::asking::{expression_at, replica_named};
 use crate::marks::{Mark, clear_mark, set_mark};
 use jc_answers::{ArrayText, Member, object_text, refused};
 use jc_cursor::Bound;
-use jc_debug::{Break, Debugger};
+use jc_debug::{Break, DebugFault, Debugger};
 use jc_dump::cursor_text;
 use jc_json::id_text;
 use jc_looks::{LookFault, value_of};
@@ -161,11 +162,14 @@ pub(crate) fn told_marks(
 
 /// Brings a debugger to a position of its schedule to which the events lead.
 fn bring(debugger: &mut Debugger, n: u64) -> Result<(), AllocError>
+    requires { HasNetworkAt debugger.old n }
     ensures { OnOk result (IsMoved debugger.old debugger.new n) }
 {
     match debugger.goto(n) {
         Ok(()) => Ok(()),
-        Err(_) => Err(AllocError),
+        Err(DebugFault::Memory) => Err(AllocError),
+        Err(DebugFault::Refused(_)) => unreachable!(),
+        Err(DebugFault::Stuck(_)) => unreachable!(),
     }
 }
 
@@ -264,33 +268,42 @@ impl Served {
 
     /// Brings the first debugger to a position to which the events lead.
     pub(crate) fn bring_here(&mut self, n: u64) -> Result<(), AllocError>
+        requires { HasNetworkAt self.old.here n }
         ensures moved { OnOk result (IsMoved self.old.here self.new.here n) }
         ensures rest { self.new ≡ with_here self.old self.new.here }
     {
         bring(&mut self.here, n)
     }
 
-    /// Brings the second debugger to a position to which the events lead.
+    /// Brings the second debugger to a position before that of the first.
     pub(crate) fn bring_aside(&mut self, n: u64) -> Result<(), AllocError>
+        requires paired { ArePaired self.old }
+        requires before { n < length self.old.here.traces }
         ensures moved { OnOk result (IsMoved self.old.aside self.new.aside n) }
         ensures rest { self.new ≡ with_aside self.old self.new.aside }
     {
+        // For its contract: the first debugger is on its trail.
+        let _ = self.here.position();
         bring(&mut self.aside, n)
     }
 
     /// Brings the second debugger's schedule to that of the first, in which an event was made behind the first n.
     pub(crate) fn follow(&mut self, n: u64) -> Result<(), AllocError>
-        requires { n < length self.old.here.schedule }
+        requires { SharesFirst self.old.aside self.old.here n }
         ensures followed { OnOk result ((event : AnyEvent)
             → slice_get self.old.here.schedule n ≡ Some event
             → IsFollowed self.old.aside self.new.aside n event) }
         ensures rest { self.new ≡ with_aside self.old self.new.aside }
     {
+        // For its contract: the first debugger is on its trail.
+        let _ = self.here.position();
         let event = self.here.schedule()[n as usize];
         bring(&mut self.aside, n)?;
         match self.aside.act(&event) {
             Ok(()) => Ok(()),
-            Err(_) => Err(AllocError),
+            Err(DebugFault::Memory) => Err(AllocError),
+            Err(DebugFault::Refused(_)) => unreachable!(),
+            Err(DebugFault::Stuck(_)) => unreachable!(),
         }
     }
 }

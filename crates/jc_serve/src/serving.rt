@@ -10,12 +10,12 @@ ghost use Rattle.jc_requests.specs.Views.{asked_view};
 ghost use Rattle.jc_serve.specs.Subjects.{IsSubject};
 ghost use Rattle.jc_serve.specs.Serving.{Held as AnyHeld, IsFirst, IsQuit, Serves};
 ghost use Rattle.jc_serve.specs.Stopped.{StoppedAtRead, StoppedWhole, StoppedInside, LeftPast};
-ghost use Rattle.jc_serve.specs.Progress.{IsHeldAs, IsHeld, IsOfAnswer, LeadsOn, GoesOut};
+ghost use Rattle.jc_serve.specs.Progress.{IsHeldAs, IsHeld, IsOfAnswer, LeadsOn};
 
 use crate::answers::answer;
 use crate::subjects::{Subject, counts_answer, subject_of};
 use jc_answers::refused;
-use jc_io::{Failed, ReadFault, Sink, Source, write_all};
+use jc_io::{Failed, ReadFault, Sink, Source, write_flushed};
 use jc_requests::{Asked, Input, Turn, asked};
 use jc_rules::Refusal;
 use jc_session::Request;
@@ -96,10 +96,7 @@ fn send<K: Sink>(out: &mut K, answer: Vec<u8>) -> Result<(), ServeFault>
     ensures kind { IfErr result IsOfAnswer }
 {
     let line = ended(answer)?;
-    if let Err(Failed) = write_all(out, line.as_slice()) {
-        return Err(ServeFault::WriteFailed);
-    }
-    match out.flush() {
+    match write_flushed(out, line.as_slice()) {
         Ok(()) => Ok(()),
         Err(Failed) => Err(ServeFault::WriteFailed),
     }
@@ -133,47 +130,12 @@ fn line_answer(
     Ok((text, more))
 }
 
-/// Answers a line. Returns whether more is read.
-fn answer_line<K: Sink>(
-    alloc: Global,
-    held: &mut Held,
-    line: Option<&[u8]>,
-    out: &mut K,
-) -> Result<bool, ServeFault>
-    requires held { IsHeld held.old }
-    requires no_text { size_of (requests.asked (line_of_bytes line)) ≡ None }
-    ensures goes { OnOk result (GoesOut Wrote held.old (says (line_of_bytes line.entry)) held.new
-        (sink K.Sink out.old) (sink K.Sink out.new)) }
-    ensures more { IfOk result (λ more. more ≡ false ↔ IsQuit (says (line_of_bytes line.entry))) }
-    ensures memory { IsErrOf result ServeFault.Memory → out.new ≡ out.old }
-    ensures write { IsErrOf result ServeFault.WriteFailed
-        → GoesOut Interrupted held.old (says (line_of_bytes line.entry)) held.new
-        (sink K.Sink out.old) (sink K.Sink out.new) }
-    ensures kind { IfErr result IsOfAnswer }
-{
-    let (text, more) = line_answer(alloc, held, line)?;
-    send(out, text)?;
-    Ok(more)
-}
-
-/// Holds a text, and answers how much there is of it.
-fn answer_text<K: Sink>(
-    alloc: Global,
-    held: &mut Held,
-    text: Vec<u8>,
-    out: &mut K,
-) -> Result<(), ServeFault>
-    ensures goes { OnOk result (GoesOut Wrote held.old (brings text.items) held.new
-        (sink K.Sink out.old) (sink K.Sink out.new)) }
-    ensures memory { IsErrOf result ServeFault.Memory → out.new ≡ out.old }
-    ensures write { IsErrOf result ServeFault.WriteFailed
-        → GoesOut Interrupted held.old (brings text.items) held.new
-        (sink K.Sink out.old) (sink K.Sink out.new) }
-    ensures kind { IfErr result IsOfAnswer }
+/// Holds a text, and returns how much there is of it.
+fn text_answer(alloc: Global, held: &mut Held, text: Vec<u8>) -> Result<Vec<u8>, AllocError>
+    ensures { IfOk result (λ answer. LeadsOn held.old (brings text.items) held.new answer.items) }
 {
     *held = Held::of(alloc, text)?;
-    let text = counts_answer(alloc, held.text.as_slice(), &held.subject)?;
-    send(out, text)
+    counts_answer(alloc, &held.subject)
 }
 
 // ---- all requests
@@ -208,11 +170,13 @@ fn converse<S: Source, K: Sink>(
     'requests: loop {
         match input.next(alloc, source)? {
             Turn::Line => {
-                if !answer_line(alloc, held, input.line(), out)? {
+                let (answer, more) = line_answer(alloc, held, input.line())?;
+                send(out, answer)?;
+                if !more {
                     return Ok(());
                 }
             }
-            Turn::Text(text) => answer_text(alloc, held, text, out)?,
+            Turn::Text(text) => send(out, text_answer(alloc, held, text)?)?,
             Turn::End => return Ok(()),
             Turn::TooMany => return Err(ServeFault::TooMany),
             Turn::CutShort => return Err(ServeFault::CutShort),

@@ -1,6 +1,6 @@
 //! What a text is, and the answers about it as a whole.
 
-ghost use Rattle.std.specs.Prelude.{◌≡◌, ◌≢◌, ◌≤◌, ℕ, List, [], All, length, sum_by, IfOk};
+ghost use Rattle.std.specs.Prelude.{◌≡◌, ◌≤◌, ℕ, List, [], All, length, sum_by, codes, IfOk};
 ghost use Rattle.jc_rules.specs.declared.limits.TheConstants.{MAX_REPLICAS};
 ghost use Rattle.jc_parser.specs.Scripts.{IsScriptWellFormed};
 ghost use Rattle.jc_scenario.specs.Views.{scenario_view, scripts_view};
@@ -9,18 +9,23 @@ ghost use Rattle.jc_rules.specs.Step.{Network as AnyNetwork};
 ghost use Rattle.jc_network.specs.Given.{before_given, IsStart, IsStarted, IsGivenFault};
 ghost use Rattle.jc_debug.specs.DebuggerState.{new_session};
 ghost use Rattle.jc_debug.specs.Invariant.{session_of};
+ghost use Rattle.jc_answers.specs.JsonTexts.{text_member};
 ghost use Rattle.jc_answers.specs.Parts.{member_of};
+ghost use Rattle.jc_answers.specs.Refusals.{IsRefusedTextWith};
+ghost use Rattle.jc_expected.specs.Expected.{IsExpected};
 ghost use Rattle.jc_serve.specs.Subjects as subjects;
-ghost use Rattle.jc_serve.specs.Subjects.{Subject as AnySubject, stuck_given, IsFaultAnswer, IsCounts};
+ghost use Rattle.jc_serve.specs.Subjects.{Subject as AnySubject, stuck_given, IsTextAnswer, IsFaultAnswer, IsCounts};
 ghost use Rattle.jc_serve.specs.AnswerOf.{IsSomeStop, IsOfStop, IsSubjectOf, IsNewFor, IsHeldFor};
 
 use crate::marks::no_marks;
 use crate::served::Served;
 use crate::stuck::GivenStop;
-use jc_answers::{Member, object_text};
+use jc_answers::{Member, object_text, refused_text, refused_text_with};
 use jc_debug::Debugger;
-use jc_looks::{given_network, refused_at};
+use jc_expected::expected;
+use jc_looks::given_network;
 use jc_network::{Stuck, Unstarted};
+use jc_rules::Refusal;
 use jc_scenario::{Scenario, ScenarioFault, read};
 use jc_syntax::Cmd;
 use std::alloc::{AllocError, Global};
@@ -28,8 +33,8 @@ use std::alloc::{AllocError, Global};
 /// What a text is.
 #[derive(Drop)]
 pub(crate) enum Subject {
-    /// No scenario, for this fault.
-    NoScenario(ScenarioFault),
+    /// No scenario. This answer, which was made once, says why.
+    NoScenario(Vec<u8>),
     /// A scenario of which a given event is stuck.
     StuckGiven(GivenStop),
     /// A scenario with a session.
@@ -65,7 +70,7 @@ fn second(alloc: Global, scenario: &Scenario) -> Result<Debugger, AllocError>
     ensures started { IfOk result (λ debugger. IsStarted (scenario_view scenario.now) debugger.net) }
     ensures session { IfOk result (λ debugger. session_of debugger ≡ new_session scenario.now.schedule.items) }
 {
-    match Debugger::new(alloc, scenario.copy()?) {
+    match Debugger::of(alloc, scenario.copy()?) {
         Ok(debugger) => Ok(debugger),
         Err(Unstarted::Memory) => Err(AllocError),
         Err(Unstarted::Given { .. }) => unreachable!(),
@@ -96,7 +101,7 @@ fn subject_of_scenario(alloc: Global, scenario: Scenario) -> Result<Subject, All
     ensures { IfOk result (λ subject. (text : List ℕ)
         → IsScenario text (scenario_view scenario) → IsNewFor text subject) }
 {
-    match Debugger::new(alloc, scenario.copy()?) {
+    match Debugger::of(alloc, scenario.copy()?) {
         Ok(here) => served(alloc, scenario, here),
         Err(
             Unstarted::Given {
@@ -109,14 +114,54 @@ fn subject_of_scenario(alloc: Global, scenario: Scenario) -> Result<Subject, All
     }
 }
 
-/// A text that is no scenario, for this fault. Want of memory is none.
-fn no_scenario(fault: ScenarioFault) -> Result<Subject, AllocError>
-    ensures { IfOk result (λ subject. (subject ≡ Subject.NoScenario fault) × (fault ≢ ScenarioFault.Memory)) }
+// ---- texts that are refused
+
+/// The answer of a refusal at an offset of the text, with what could stand there.
+fn misfit_answer(
+    alloc: Global,
+    text: &[u8],
+    refusal: Refusal,
+    place: usize,
+) -> Result<Vec<u8>, AllocError>
+    ensures { IfOk result (λ answer. (list : List ℕ)
+        × IsExpected text.now place list
+        × IsRefusedTextWith (text_member (codes "expected") list) text.now refusal place answer.items) }
 {
-    match fault {
-        ScenarioFault::Memory => Err(AllocError),
-        _ => Ok(Subject::NoScenario(fault)),
+    let list = expected(alloc, text, place)?;
+    let member = Member::text("expected", list.as_slice());
+    refused_text_with(alloc, text, refusal, place, member)
+}
+
+/// Whether a refusal is that of a token that doesn't fit, or of a text that ends too early.
+fn tells_expected(refusal: Refusal) -> bool
+    ensures { result ≡ subjects.tells_expected refusal }
+{
+    matches!(refusal, Refusal::Unexpected | Refusal::EndOfText)
+}
+
+/// The answer of a refusal at an offset of the text.
+fn text_answer(
+    alloc: Global,
+    text: &[u8],
+    refusal: Refusal,
+    place: usize,
+) -> Result<Vec<u8>, AllocError>
+    ensures { IfOk result (λ answer. IsTextAnswer text.now refusal place answer.items) }
+{
+    if tells_expected(refusal) {
+        return misfit_answer(alloc, text, refusal, place);
     }
+    refused_text(alloc, text, refusal, place)
+}
+
+/// Why the text is refused. Want of memory is no refusal.
+fn fault_answer(alloc: Global, text: &[u8], fault: &ScenarioFault) -> Result<Vec<u8>, AllocError>
+    ensures { IfOk result (λ answer. IsFaultAnswer text.now fault.now answer.items) }
+{
+    let (Some(refusal), Some(place)) = (fault.refusal(), fault.place()) else {
+        return Err(AllocError);
+    };
+    text_answer(alloc, text, refusal, place)
 }
 
 /// What a text is.
@@ -125,22 +170,11 @@ pub(crate) fn subject_of(alloc: Global, text: &[u8]) -> Result<Subject, AllocErr
 {
     match read(alloc, text) {
         Ok(scenario) => subject_of_scenario(alloc, scenario),
-        Err(fault) => no_scenario(fault),
+        Err(fault) => Ok(Subject::NoScenario(fault_answer(alloc, text, &fault)?)),
     }
 }
 
 // ---- answers
-
-/// Why the text is refused.
-pub(crate) fn fault_answer(
-    alloc: Global,
-    text: &[u8],
-    fault: &ScenarioFault,
-) -> Result<Vec<u8>, AllocError>
-    ensures { IfOk result (λ answer. IsFaultAnswer text.now fault.now answer.items) }
-{
-    refused_at(alloc, text, fault.refusal(), fault.place())
-}
 
 /// How many commands all scripts have.
 fn command_count(scripts: &[Vec<Cmd>]) -> usize
@@ -188,17 +222,13 @@ fn stuck_counts(alloc: Global, stop: &GivenStop) -> Result<Vec<u8>, AllocError>
 }
 
 /// The answer to the request that brought the text.
-pub(crate) fn counts_answer(
-    alloc: Global,
-    text: &[u8],
-    subject: &Subject,
-) -> Result<Vec<u8>, AllocError>
-    requires { IsHeldFor text.now subject.now }
-    ensures { IfOk result (λ answer. (is : AnySubject)
-        → IsSubjectOf text.now is subject.now → IsCounts text.now is answer.items) }
+pub(crate) fn counts_answer(alloc: Global, subject: &Subject) -> Result<Vec<u8>, AllocError>
+    requires { (text : List ℕ) × IsHeldFor text subject.now }
+    ensures { IfOk result (λ answer. (text : List ℕ) (is : AnySubject)
+        → IsSubjectOf text is subject.now → IsCounts text is answer.items) }
 {
     match subject {
-        Subject::NoScenario(fault) => fault_answer(alloc, text, fault),
+        Subject::NoScenario(why) => why.as_slice().to_vec(alloc),
         Subject::StuckGiven(stop) => stuck_counts(alloc, stop),
         Subject::Served(served) => counts(alloc, &served.scenario, Member::absent()),
     }

@@ -57,8 +57,8 @@ const MOVES: &[Row<'static>] = &[
         Some("jsoncrdt 1\nreplica a { doc := \"é\" \"x\" }"),
         "where\nquit",
         &[
-            "{\"refused\":{\"column\":24,\"end\":38,\"line\":2,\"name\":\"Unexpected\",\"number\":7,\"offset\":35}}",
-            "{\"refused\":{\"column\":24,\"end\":38,\"line\":2,\"name\":\"Unexpected\",\"number\":7,\"offset\":35}}",
+            "{\"refused\":{\"column\":24,\"end\":38,\"expected\":[\";\",\"}\"],\"line\":2,\"name\":\"Unexpected\",\"number\":7,\"offset\":35}}",
+            "{\"refused\":{\"column\":24,\"end\":38,\"expected\":[\";\",\"}\"],\"line\":2,\"name\":\"Unexpected\",\"number\":7,\"offset\":35}}",
             "{\"quit\":true}",
         ],
     ),

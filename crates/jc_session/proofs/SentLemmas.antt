@@ -1,10 +1,12 @@
 -- Of `Sent`: sessions on the scenario that bytes are, from its start.
-use Rattle.std.proofs.Common.{◌≡◌, ◌≢◌, ℕ, ◌+◌, List, [], length, Option, None, Some, Result, Ok, Err, IsErrOf, IsErrAnd, ◌⊎◌, inl, inr, refl, ap, sym, subst, ◌∙◌}
+use Rattle.std.proofs.Common.{◌≡◌, ◌≢◌, ℕ, ◌+◌, List, [], length, Option, None, Some, Result, Ok, Err, IfErr, IsErrOf, IsErrAnd, ◌⊎◌, inl, inr, refl, ap, sym, subst, ◌∙◌}
 use Rattle.std.proofs.KnownBytes.{Consumes-nil}
 use Rattle.jc_rules.specs.declared.operation.Event.{Event}
+use Rattle.jc_rules.specs.declared.refusal.Refusal.{Refusal}
 use Rattle.jc_rules.specs.Refused.{Cause}
 use Rattle.jc_parser.specs.declared.fault.ScenarioFault.{ScenarioFault}
 use Rattle.jc_parser.specs.declared.fault.ScenarioFault.TheVariants as S
+use Rattle.jc_parser.specs.Faults.{fault_refusal, fault_offset}
 use Rattle.jc_printer.specs.Canon.{AreNamed}
 use Rattle.jc_scenario.specs.WellFormed.{Scenario, IsWellFormedScenario, IsScenario}
 use Rattle.jc_scenario.specs.Faults.{IsFault}
@@ -16,21 +18,24 @@ use Rattle.jc_dump.specs.Texts.{given_text}
 use Rattle.jc_debug.specs.DebuggerState.{Session, new_session}
 use Rattle.jc_debug.specs.Invariant.{Seen, start_of}
 use Rattle.jc_debug.proofs.RepliesLemmas.{begun_at}
-use Rattle.jc_session.specs.Answers.{Origin, origin_of, IsFaultLine}
+use Rattle.jc_session.specs.Answers.{Origin, origin_of, IsRefusalAt, IsFaultLine}
 use Rattle.jc_session.specs.declared.sessions.SessionFault.{SessionFault}
-use Rattle.jc_session.specs.declared.sessions.SessionFault.TheVariants.{WriteFailed, Memory}
+use Rattle.jc_session.specs.declared.sessions.SessionFault.TheVariants.{ReadFailed, WriteFailed, TooManyLines, Memory}
 use Rattle.jc_session.specs.AnswerOf.{origin_in}
-use Rattle.jc_session.specs.RequestKinds.{IsOfAnswer}
-use Rattle.jc_session.specs.SessionText.{End, text_refused, given_stuck, Talks, refused, stuck, talks}
-use Rattle.jc_session.specs.Sent.{OfLines, OfLinesLeft, LosesFront, IsPast, AnsweredAll, ShowsAll, WentRefused, WentGiven, OnScenario}
+use Rattle.jc_session.specs.SessionText.{End, text_refused, given_stuck, Talks, ShowsSession, refused, stuck, talks}
+use Rattle.jc_session.specs.Sent.{OfLines, OfLinesLeft, LosesFront, StopsAt, WentWhole, IsPast, AnsweredAll, ShowsAll, WentRefused, WentGiven, OnScenario}
 use Rattle.jc_io.specs.Written.{Stream, Wrote, Interrupted, Written}
 use Rattle.jc_session.proofs.AnswerOfLemmas.{of_all}
 use Rattle.jc_session.proofs.FaultLinesLemmas.{not_memory}
-use Rattle.jc_session.proofs.SessionTextLemmas.{passed_on, some_failed}
 use Rattle.jc_io.proofs.WrittenLemmas.{one_failure}
 
 pub origin_is : (d : Seen) (s : Scenario) → IsStarted s d.net → origin_in d ≡ origin_of s (start_of d)
 origin_is d s h = let names = h.names in λ i. record { names = names i; start = start_of d }
+
+-- the line that was made for its refusal and its place is the fault's
+pub fault_told : (fault : ScenarioFault) (refusal : Option Refusal) (place : Option ℕ) (text : List ℕ) → refusal ≡ fault_refusal fault → place ≡ fault_offset fault → IsRefusalAt refusal place text → IsFaultLine fault text
+fault_told fault refusal place text which at h =
+    subst (λ (x : Option Refusal). IsRefusalAt x (fault_offset fault) text) which (subst (λ (x : Option ℕ). IsRefusalAt refusal x text) at h)
 
 pub text_refused_shown : (b : List ℕ) (f fault : ScenarioFault) (o p : Stream) → (f ≢ S.Memory → IsFault b f) → Written (IsFaultLine f) o p → f ≡ fault → (l : List ℕ) → ShowsAll b l (text_refused fault) o p
 text_refused_shown b f fault o p is h same l = subst (λ (x : ScenarioFault). ShowsAll b l (text_refused x) o p) same (h.0, refused f (is (not_memory f h.0 h.1)) h.1, h.2)
@@ -49,39 +54,65 @@ given_named s names at t formed same g = record {
   named = subst (λ (ns : List (List ℕ)). AreNamed g.event (length ns)) (sym same) (of_all (λ e. AreNamed e (length s.names)) s.given g.stuck.before g.event formed.given_known g.stuck.is);
 }
 
--- what holds of its lines, for the event and the cause that the fault has
-abbrev pub OfGiven : List (List ℕ) → ℕ → Stuck → (List ℕ → Type 0) → Type 0
-OfGiven names at t Says = (why : Cause) (event : Event) → t ≡ stuck_for why event → Says (given_text names at why event)
+-- the text that it has is that of the event and the cause of the fault
+pub given_is : (s : Scenario) (names : List (List ℕ)) (at : ℕ) (t : Stuck) (text : List ℕ) → names ≡ s.names → (g : IsGivenFault (before_given s) s.given at t) → ((why : Cause) (event : Event) → t ≡ stuck_for why event → text ≡ given_text names at why event) → text ≡ given_text s.names at g.why g.event
+given_is s names at t text same g h = h g.why g.event g.is ∙ ap (λ (ns : List (List ℕ)). given_text ns at g.why g.event) same
 
-of_given : (s : Scenario) (names : List (List ℕ)) (at : ℕ) (t : Stuck) (Says : List ℕ → Type 0) → names ≡ s.names → (g : IsGivenFault (before_given s) s.given at t) → OfGiven names at t Says → Says (given_text s.names at g.why g.event)
-of_given s names at t Says same g h = subst (λ (ns : List (List ℕ)). Says (given_text ns at g.why g.event)) same (h g.why g.event g.is)
+pub given_shown : (b : List ℕ) (s : Scenario) (at : ℕ) (t : Stuck) (text : List ℕ) (o p : Stream) → IsScenario b s → (g : IsGivenFault (before_given s) s.given at t) → text ≡ given_text s.names at g.why g.event → Wrote text o p → (l : List ℕ) → ShowsAll b l given_stuck o p
+given_shown b s at t text o p is g same went l =
+    (text, subst (λ (x : List ℕ). ShowsSession b l x given_stuck) (sym same) (stuck s at g.event g.why is g.stuck), went)
 
-pub given_shown : (b : List ℕ) (s : Scenario) (names : List (List ℕ)) (at : ℕ) (t : Stuck) (o p : Stream) → IsScenario b s → names ≡ s.names → IsGivenFault (before_given s) s.given at t → OfGiven names at t (λ text. Wrote text o p) → (l : List ℕ) → ShowsAll b l given_stuck o p
-given_shown b s names at t o p is same g h l =
-    (given_text s.names at g.why g.event, stuck s at g.event g.why is g.stuck, of_given s names at t (λ text. Wrote text o p) same g h)
+pub given_front : (b : List ℕ) (s : Scenario) (at : ℕ) (t : Stuck) (text : List ℕ) (o p : Stream) → IsScenario b s → (g : IsGivenFault (before_given s) s.given at t) → text ≡ given_text s.names at g.why g.event → Interrupted text o p → WentGiven b o p
+given_front b s at t text o p is g same went = (s, at, g.event, g.why, is, g.stuck, subst (λ (x : List ℕ). Interrupted x o p) same went)
 
-pub given_front : (b : List ℕ) (s : Scenario) (names : List (List ℕ)) (at : ℕ) (t : Stuck) (o p : Stream) → IsScenario b s → names ≡ s.names → IsGivenFault (before_given s) s.given at t → OfGiven names at t (λ text. Interrupted text o p) → WentGiven b o p
-given_front b s names at t o p is same g h =
-    (s, at, g.event, g.why, is, g.stuck, of_given s names at t (λ text. Interrupted text o p) same g h)
+-- ---- a fault that stopped it
 
--- then no write failed, or one did
-pub given_written : (s : Scenario) (names : List (List ℕ)) (at : ℕ) (t : Stuck) (o p : Stream) → IsGivenFault (before_given s) s.given at t → OfGiven names at t (λ text. Wrote text o p) → p.failures ≡ o.failures
-given_written s names at t o p g h = (h g.why g.event g.is).1
-
-pub given_failed : (s : Scenario) (names : List (List ℕ)) (at : ℕ) (t : Stuck) (o p : Stream) → IsGivenFault (before_given s) s.given at t → OfGiven names at t (λ text. Interrupted text o p) → p.failures ≡ o.failures + 1
-given_failed s names at t o p g h = one_failure o p (given_text names at g.why g.event) (h g.why g.event g.is)
-
--- ---- a fault that is passed on
-
+-- a fault that is passed on
 pub handed : {T U E : Type 0} (f x : E) (r : Result T E) → IsErrAnd r (λ e. e ≡ f) → IsErrOf r x → IsErrOf {T = U} (Err f) x
 handed f x (Ok v) h k = absurd h
 handed f x (Err e) h k = let same : e ≡ x = cc in ap Err (sym h ∙ same)
 
-pub failed_handed : {T U : Type 0} (f : SessionFault) (r : Result T SessionFault) (a b : ℕ) → IsErrAnd r (λ e. e ≡ f) → IsOfAnswer f → (IsErrOf {T = U} (Err f) Memory → b ≡ a) → (IsErrOf {T = U} (Err f) WriteFailed → b ≡ a + 1) → (IsErrOf r WriteFailed → b ≡ a + 1) × ((IsErrOf r WriteFailed → ⊥) → b ≡ a)
-failed_handed f (Ok v) a b h kind memory write = absurd h
-failed_handed {T} {U} f (Err e) a b h kind memory write =
-    subst (λ (x : SessionFault). (IsErrOf {T = T} (Err x) WriteFailed → b ≡ a + 1) × ((IsErrOf {T = T} (Err x) WriteFailed → ⊥) → b ≡ a)) (sym h)
-    (some_failed {T = U} {U = T} f a a b refl kind memory write)
+-- want of memory, passed on
+pub starved : {T : Type 0} (O : Origin) (A : Session) (first left : Option (List ℕ)) (o p : Stream) (r : Result T SessionFault) → IsErrAnd r (λ e. e ≡ Memory) → OfLinesLeft first left (λ l rest. WentWhole O A l rest o p) → IfErr r (λ fault. OfLinesLeft first left (λ l rest. StopsAt fault O A l rest o p))
+starved O A first left o p (Ok v) h went = absurd h
+starved O A first left o p (Err e) h went = subst (λ (f : SessionFault). OfLinesLeft first left (λ l rest. StopsAt f O A l rest o p)) (sym h) went
+
+-- it is this one
+pub stops_as : {T : Type 0} (fault x : SessionFault) (O : Origin) (A : Session) (first left : Option (List ℕ)) (o p : Stream) → IsErrOf {T = T} (Err fault) x → OfLinesLeft first left (λ l rest. StopsAt fault O A l rest o p) → OfLinesLeft first left (λ l rest. StopsAt x O A l rest o p)
+stops_as fault x O A first left o p is h =
+    let same : fault ≡ x = cc in subst (λ (f : SessionFault). OfLinesLeft first left (λ l rest. StopsAt f O A l rest o p)) same h
+
+some_left : (first left : Option (List ℕ)) (Says : List ℕ → Option (List ℕ) → Type 0) → OfLinesLeft first left Says → (l : List ℕ) × (rest : Option (List ℕ)) × Says l rest
+some_left None left Says h = (h.0, Some h.1, h.2)
+some_left (Some l) left Says h = (l, left, h)
+
+failures_at : (fault : SessionFault) (O : Origin) (A : Session) (l : List ℕ) (rest : Option (List ℕ)) (o p : Stream) → StopsAt fault O A l rest o p → (fault ≡ WriteFailed → p.failures ≡ o.failures + 1) × ((fault ≡ WriteFailed → ⊥) → p.failures ≡ o.failures)
+failures_at ReadFailed O A l rest o p h = (λ e. cc, λ none. h.went.1)
+failures_at WriteFailed O A l rest o p h =
+    (λ e. let b = h.breaks_off in one_failure h.between p b.1 b.3 ∙ ap (λ n. n + 1) h.went.1, λ none. absurd (none refl))
+failures_at TooManyLines O A l rest o p h = (λ e. cc, λ none. h.0.2.1)
+failures_at Memory O A l rest o p h = (λ e. cc, λ none. h.went.1)
+
+-- ---- failed writes
+
+abbrev pub FailsOnce : {T : Type 0} → Result T SessionFault → ℕ → ℕ → Type 0
+FailsOnce result a b = (IsErrOf result WriteFailed → b ≡ a + 1) × ((IsErrOf result WriteFailed → ⊥) → b ≡ a)
+
+pub none_failed : {T : Type 0} (x : T) (a b : ℕ) → b ≡ a → FailsOnce (Ok x) a b
+none_failed x a b same = (λ k. absurd cc, λ none. same)
+
+pub one_failed : {T : Type 0} (a b : ℕ) → b ≡ a + 1 → FailsOnce {T = T} (Err WriteFailed) a b
+one_failed a b once = (λ k. once, λ none. absurd (none refl))
+
+pub stopped_once : {T : Type 0} (fault : SessionFault) (O : Origin) (A : Session) (first left : Option (List ℕ)) (o p : Stream) → OfLinesLeft first left (λ l rest. StopsAt fault O A l rest o p) → FailsOnce {T = T} (Err fault) o.failures p.failures
+stopped_once fault O A first left o p h =
+    let w = some_left first left (λ l rest. StopsAt fault O A l rest o p) h in
+    let f = failures_at fault O A w.0 w.1 o p w.2 in
+    (λ k. f.0 cc, λ none. f.1 (λ e. none (ap Err e)))
+
+pub finished_unfailed : (O : Origin) (A : Session) (first : Option (List ℕ)) (end : End) (o p : Stream) → OfLines first (λ l. AnsweredAll O A l end o p) → p.failures ≡ o.failures
+finished_unfailed O A None end o p h = h.1.2.1
+finished_unfailed O A (Some l) end o p h = h.2.1
 
 -- ---- from the start
 
@@ -114,5 +145,5 @@ left_after_ok x y e L (inl h) = absurd cc
 left_after_ok x y e L (inr l) = inr l
 
 pub left_after_err : {T U E : Type 0} (f e : E) (L : Type 0) → IsErrOf {T = T} (Err f) e ⊎ L → IsErrOf {T = U} (Err f) e ⊎ L
-left_after_err f e L (inl h) = inl (passed_on f e h)
+left_after_err f e L (inl h) = inl (let same : f ≡ e = cc in ap Err same)
 left_after_err f e L (inr l) = inr l

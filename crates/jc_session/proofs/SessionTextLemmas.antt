@@ -1,12 +1,11 @@
 -- Of `Progress`, `SessionText` and `Sent`: what was sent so far, and at each end of a session.
-use Rattle.std.proofs.Common.{◌≡◌, ◌≢◌, ℕ, ◌+◌, ◌<◌, ◌≤◌, nat_le, List, [], ◌∷◌, ◌++◌, length, take, map, Bool, true, false, Option, None, Some, IfSome, MatchOption, IsErrOf, Ok, Err, inl, inr, ◌⊎◌, refl, ap, sym, subst, ◌∙◌, arith, length-append, append_assoc, append-nil, Bor}
+use Rattle.std.proofs.Common.{◌≡◌, ◌≢◌, ℕ, ◌+◌, ◌<◌, ◌≤◌, nat_le, List, [], ◌∷◌, ◌++◌, length, take, map, Bool, true, false, Option, None, Some, IfSome, MatchOption, inl, inr, ◌⊎◌, refl, ap, sym, subst, ◌∙◌, arith, length-append, append_assoc, append-nil, Bor}
 use Rattle.std.proofs.lemmas.Bool.Decides.{nat_tests}
 use Rattle.std.proofs.lemmas.List.{map-append, length-map, length-take-le}
 use Rattle.std.specs.Io.KnownBytes.{Consumes, IsAtEnd, prepend_known}
 use Rattle.std.proofs.KnownBytes.{Consumes-trans}
 use Rattle.std.specs.List.{All}
 use Rattle.std.proofs.ByRecursion.{All-push}
-use Rattle.jc_io.specs.declared.io.Sink.{Ghosts as SinkGhosts}
 use Rattle.jc_rules.specs.declared.operation.Event.{Event}
 use Rattle.jc_printer.specs.Canon.{AreNamed}
 use Rattle.jc_debug.specs.DebuggerState.{Session}
@@ -18,10 +17,7 @@ use Rattle.jc_session.specs.SessionText.{AnswersLines, finished, too_many, at_th
 use Rattle.jc_session.specs.LineReading.{ReadStopsAt}
 use Rattle.jc_session.specs.Sent.{OfLines, OfLinesLeft, LosesFront, GoesOn, BreaksOff, AnsweredAll, Answered, WentToRead, WentWhole, WentFront, IsNextSent, ends_in_lf, ends_at_end, IsPast}
 use Rattle.jc_session.specs.Progress.{SoFar}
-use Rattle.jc_io.specs.Written.{Stream, sink, Wrote}
-use Rattle.jc_session.specs.RequestKinds.{IsOfAnswer}
-use Rattle.jc_session.specs.declared.sessions.SessionFault.{SessionFault}
-use Rattle.jc_session.specs.declared.sessions.SessionFault.TheVariants.{ReadFailed, WriteFailed, TooManyLines, Memory}
+use Rattle.jc_io.specs.Written.{Stream, Wrote}
 use Rattle.jc_session.proofs.EventNamesLemmas.{answer_named}
 use Rattle.jc_io.proofs.WrittenLemmas.{wrote_both}
 use Rattle.jc_session.proofs.LinesDueLemmas.{take_whole, ended_append, due_all, due_front, due_bytes, due_lines}
@@ -34,16 +30,10 @@ answers_more O A B C (y ∷ xs) x t u h k =
     (h.0, h.1, h.2 ++ u, h.3, answers_more O h.0 B C xs x h.2 u h.4 k, ap (λ l. l ++ u) h.5 ∙ append_assoc h.1 h.2 u)
 
 -- what holds of an answer from the same origin
-pub goes_on : (O P : Origin) (A B : Session) (line : Line) (o p : Stream) → P ≡ O → GoesOn P A line B o p → GoesOn O A line B o p
-goes_on O P A B line o p e h = subst (λ (X : Origin). GoesOn X A line B o p) e h
-
-pub breaks_off : (O P : Origin) (A : Session) (line : Line) (o p : Stream) → P ≡ O → BreaksOff P A line o p → BreaksOff O A line o p
-breaks_off O P A line o p e h = subst (λ (X : Origin). BreaksOff X A line o p) e h
+pub from_origin : (O P : Origin) (A B : Session) (line : Line) (text : List ℕ) → P ≡ O → LineAnswer P A line B text → LineAnswer O A line B text
+from_origin O P A B line text e h = subst (λ (X : Origin). LineAnswer X A line B text) e h
 
 -- the schedule's events stay named
-pub goes_named : (O P : Origin) (A B : Session) (line : Line) (o p : Stream) → P ≡ O → GoesOn P A line B o p → All (λ e. AreNamed e (length O.names)) A.schedule → All (λ e. AreNamed e (length O.names)) B.schedule
-goes_named O P A B line o p e h named = let g = goes_on O P A B line o p e h in answer_named O A B line g.0 g.1 named
-
 pub all_named : (O P : Origin) (events : List Event) → P ≡ O → All (λ e. AreNamed e (length O.names)) events → All (λ e. AreNamed e (length P.names)) events
 all_named O P events e named = subst (λ (X : Origin). All (λ x. AreNamed x (length X.names)) events) (sym e) named
 
@@ -133,12 +123,12 @@ told_end O A B (Some bytes) (Some rest) o p n m le few s e =
       s.went,
     )
 
-told_last : (O : Origin) (A B C : Session) (first now next : Option (List ℕ)) (o p q : Stream) (n m : ℕ) (raw : List ℕ) (line : Line) (goes : Bool) → n + length raw ≤ 67108864 → m < 1000000 → SoFar O A B first now o p n m → Lacks 10 raw → Consumes now next raw → IsAtEnd next → last_line raw ≡ line ∷ []
-    → (goes ≡ true → GoesOn O B line C p q) → (goes ≡ false → (meaning line ≡ asks quit) × (q ≡ p)) → IfSome first (λ l. AnsweredAll O A l finished o q)
-told_last O A B C None now next o p q n m raw line goes le few s l h a e g f = tt
-told_last O A B C (Some bytes) None next o p q n m raw line goes le few s l h a e g f = absurd s.gone
-told_last O A B C (Some bytes) (Some rest) None o p q n m raw line goes le few s l h a e g f = absurd h
-told_last O A B C (Some bytes) (Some rest) (Some more) o p q n m raw line goes le few s l h a e g f =
+told_last : (O : Origin) (A B C : Session) (first now next : Option (List ℕ)) (o p q : Stream) (n m : ℕ) (raw : List ℕ) (line : Line) → n + length raw ≤ 67108864 → m < 1000000 → SoFar O A B first now o p n m → Lacks 10 raw → Consumes now next raw → IsAtEnd next → last_line raw ≡ line ∷ []
+    → GoesOn O B line C p q ⊎ ((meaning line ≡ asks quit) × (q ≡ p)) → IfSome first (λ l. AnsweredAll O A l finished o q)
+told_last O A B C None now next o p q n m raw line le few s l h a e g = tt
+told_last O A B C (Some bytes) None next o p q n m raw line le few s l h a e g = absurd s.gone
+told_last O A B C (Some bytes) (Some rest) None o p q n m raw line le few s l h a e g = absurd h
+told_last O A B C (Some bytes) (Some rest) (Some more) o p q n m raw line le few s l h a e g =
     let rest_is : rest ≡ raw = h ∙ ap (λ x. raw ++ x) a ∙ append-nil raw in
     let whole : bytes ≡ with_line_ends s.whole ++ raw = s.gone ∙ ap (λ x. with_line_ends s.whole ++ x) rest_is in
     let b = s.bytes_are in
@@ -147,37 +137,35 @@ told_last O A B C (Some bytes) (Some rest) (Some more) o p q n m raw line goes l
     let due_is : map whole_line s.whole ++ last_line raw ≡ map whole_line s.whole ++ line ∷ [] = ap (λ x. map whole_line s.whole ++ x) e in
     let count : length (map whole_line s.whole ++ last_line raw) ≡ length s.whole + 1 = ap length due_is ∙ length-append (map whole_line s.whole) (line ∷ []) ∙ ap (λ k. k + 1) (length-map s.whole whole_line) in
     let due = due_all 67108864 1000000 bytes s.whole raw (record { is = whole; no_lf = s.no_lf; last_no_lf = l }) (omega (arith, size, b)) (omega (arith, count, c)) in
-    by_answer goes refl due_is due
+    by_answer g due_is due
   where
-    by_answer : (c : Bool) → goes ≡ c → map whole_line s.whole ++ last_line raw ≡ map whole_line s.whole ++ line ∷ [] → AreDue bytes (map whole_line s.whole ++ last_line raw) finished → AnsweredAll O A bytes finished o q
-    by_answer true t due_is due =
-        let k = g t in (
-          s.text ++ k.0,
-          record {
-            due = map whole_line s.whole ++ last_line raw;
-            due_end = finished;
-            are_due = due;
-            lines = map whole_line s.whole ++ last_line raw;
-            ends = at_the_end;
-            last = C;
-            answers = subst (λ (xs : List Line). AnswersLines O A xs C (s.text ++ k.0)) (sym due_is) (answers_more O A B C (map whole_line s.whole) line s.text k.0 s.answers k.1);
-          },
-          wrote_both o p q s.text k.0 s.went k.2,
-        )
-    by_answer false t due_is due =
-        let k = f t in (
-          s.text,
-          record {
-            due = map whole_line s.whole ++ last_line raw;
-            due_end = finished;
-            are_due = due;
-            lines = map whole_line s.whole;
-            ends = at_quit line [] due_is k.0;
-            last = B;
-            answers = s.answers;
-          },
-          subst (λ (x : Stream). Wrote s.text o x) (sym k.1) s.went,
-        )
+    by_answer : GoesOn O B line C p q ⊎ ((meaning line ≡ asks quit) × (q ≡ p)) → map whole_line s.whole ++ last_line raw ≡ map whole_line s.whole ++ line ∷ [] → AreDue bytes (map whole_line s.whole ++ last_line raw) finished → AnsweredAll O A bytes finished o q
+    by_answer (inl k) due_is due = (
+      s.text ++ k.0,
+      record {
+        due = map whole_line s.whole ++ last_line raw;
+        due_end = finished;
+        are_due = due;
+        lines = map whole_line s.whole ++ last_line raw;
+        ends = at_the_end;
+        last = C;
+        answers = subst (λ (xs : List Line). AnswersLines O A xs C (s.text ++ k.0)) (sym due_is) (answers_more O A B C (map whole_line s.whole) line s.text k.0 s.answers k.1);
+      },
+      wrote_both o p q s.text k.0 s.went k.2,
+    )
+    by_answer (inr k) due_is due = (
+      s.text,
+      record {
+        due = map whole_line s.whole ++ last_line raw;
+        due_end = finished;
+        are_due = due;
+        lines = map whole_line s.whole;
+        ends = at_quit line [] due_is k.0;
+        last = B;
+        answers = s.answers;
+      },
+      subst (λ (x : Stream). Wrote s.text o x) (sym k.1) s.went,
+    )
 
 told_quit : (O : Origin) (A B : Session) (first now next : Option (List ℕ)) (o p q : Stream) (n m : ℕ) (raw : List ℕ) (line : Line) → n + length raw + 1 ≤ 67108864 → m + 1 ≤ 1000000 → SoFar O A B first now o p n m → Lacks 10 raw → Consumes now next (raw ++ 10 ∷ []) → line ≡ whole_line raw
     → (meaning line ≡ asks quit) × (q ≡ p) → IfSome first (λ l. AnsweredAll O A l finished o q)
@@ -393,12 +381,12 @@ at_end O A B None now o p n m le few s e =
     let l = with_line_ends s.whole ++ [] in
     (l, told_end O A B (Some l) (Some []) o p n m le few (told O A B None now o p n m [] s) refl)
 
-pub at_last : (O : Origin) (A B C : Session) (first now next : Option (List ℕ)) (o p q : Stream) (n m : ℕ) (raw : List ℕ) (line : Line) (goes : Bool) → n + length raw ≤ 67108864 → m < 1000000 → SoFar O A B first now o p n m → Lacks 10 raw → Consumes now next raw → IsAtEnd next → last_line raw ≡ line ∷ []
-    → (goes ≡ true → GoesOn O B line C p q) → (goes ≡ false → (meaning line ≡ asks quit) × (q ≡ p)) → OfLines first (λ l. AnsweredAll O A l finished o q)
-at_last O A B C (Some bytes) now next o p q n m raw line goes le few s l h a e g f = told_last O A B C (Some bytes) now next o p q n m raw line goes le few s l h a e g f
-at_last O A B C None now next o p q n m raw line goes le few s l h a e g f =
+pub at_last : (O : Origin) (A B C : Session) (first now next : Option (List ℕ)) (o p q : Stream) (n m : ℕ) (raw : List ℕ) (line : Line) → n + length raw ≤ 67108864 → m < 1000000 → SoFar O A B first now o p n m → Lacks 10 raw → Consumes now next raw → IsAtEnd next → last_line raw ≡ line ∷ []
+    → GoesOn O B line C p q ⊎ ((meaning line ≡ asks quit) × (q ≡ p)) → OfLines first (λ l. AnsweredAll O A l finished o q)
+at_last O A B C (Some bytes) now next o p q n m raw line le few s l h a e g = told_last O A B C (Some bytes) now next o p q n m raw line le few s l h a e g
+at_last O A B C None now next o p q n m raw line le few s l h a e g =
     let all = with_line_ends s.whole ++ raw in
-    (all, told_last O A B C (Some all) (Some raw) (Some []) o p q n m raw line goes le few (told O A B None now o p n m raw s) l (sym (append-nil raw)) refl e g f)
+    (all, told_last O A B C (Some all) (Some raw) (Some []) o p q n m raw line le few (told O A B None now o p n m raw s) l (sym (append-nil raw)) refl e g)
 
 pub at_quit_line : (O : Origin) (A B : Session) (first now next : Option (List ℕ)) (o p q : Stream) (n m : ℕ) (raw : List ℕ) (line : Line) → n + length raw + 1 ≤ 67108864 → m + 1 ≤ 1000000 → SoFar O A B first now o p n m → Lacks 10 raw → Consumes now next (raw ++ 10 ∷ []) → line ≡ whole_line raw
     → (meaning line ≡ asks quit) × (q ≡ p) → OfLines first (λ l. AnsweredAll O A l finished o q)
@@ -441,27 +429,3 @@ at_limit O A B None now left o p n m raw ahead b le few s l some h e =
     let all = with_line_ends s.whole ++ rest in
     let t = told O A B None now o p n m rest s in
     (all, [], (told_limit O A B (Some all) (Some rest) (Some (ahead ++ [])) o p n m raw b le few t l refl (which n m raw e), told_past O A B (Some all) (Some rest) (Some []) o p n m raw ahead b t l some refl e))
-
--- an error that is passed on
-pub passed_on : {T U E : Type 0} (e x : E) → IsErrOf {T = T} (Err e) x → IsErrOf {T = U} (Err e) x
-passed_on e x h = let same : e ≡ x = cc in ap Err same
-
--- ---- failures of the sink
-
--- at `quit` a sink was left alone
-pub quit_at : {K : Type 0} {M : Type 0} (g : SinkGhosts K) {a b : K} → M × (b ≡ a) → M × (sink g b ≡ sink g a)
-quit_at g h = (h.0, ap (sink g) h.1)
-
-pub none_failed : {T E : Type 0} (x : T) (e : E) (a b : ℕ) → b ≡ a → (IsErrOf {T = T} (Ok x) e → b ≡ a + 1) × ((IsErrOf {T = T} (Ok x) e → ⊥) → b ≡ a)
-none_failed x e a b same = (λ k. absurd cc, λ none. same)
-
-pub failed_last : {a b : ℕ} (goes : Bool) → (goes ≡ true → b ≡ a) → (goes ≡ false → b ≡ a) → b ≡ a
-failed_last true f h = f refl
-failed_last false f h = h refl
-
-pub some_failed : {T U : Type 0} (fault : SessionFault) (first a b : ℕ) → a ≡ first → IsOfAnswer fault → (IsErrOf {T = T} (Err fault) Memory → b ≡ a) → (IsErrOf {T = T} (Err fault) WriteFailed → b ≡ a + 1)
-    → (IsErrOf {T = U} (Err fault) WriteFailed → b ≡ first + 1) × ((IsErrOf {T = U} (Err fault) WriteFailed → ⊥) → b ≡ first)
-some_failed ReadFailed first a b same kind f h = absurd kind
-some_failed TooManyLines first a b same kind f h = absurd kind
-some_failed Memory first a b same kind f h = (λ k. absurd cc, λ none. f refl ∙ same)
-some_failed WriteFailed first a b same kind f h = (λ k. h refl ∙ ap (λ n. n + 1) same, λ none. absurd (none refl))

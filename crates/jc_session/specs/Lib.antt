@@ -9,5 +9,4 @@ pub mod SessionText
 pub mod Sent
 pub mod Progress
 pub mod AnswerOf
-pub mod RequestKinds
 pub mod Laws

@@ -14,7 +14,9 @@ use Rattle.jc_dump.specs.Texts.{given_text}
 use Rattle.jc_debug.specs.DebuggerState.{Session, new_session}
 use Rattle.jc_session.specs.Lines.{Line, Lacks, with_line_ends, whole_line, last_line}
 use Rattle.jc_session.specs.Answers.{Origin, origin_of, IsFaultLine, LineAnswer}
-use Rattle.jc_session.specs.SessionText.{AnswersLines, Talks, End, ShowsSession}
+use Rattle.jc_session.specs.SessionText.{AnswersLines, Talks, End, too_many, ShowsSession}
+use Rattle.jc_session.specs.declared.sessions.SessionFault.{SessionFault}
+use Rattle.jc_session.specs.declared.sessions.SessionFault.TheVariants.{ReadFailed, WriteFailed, TooManyLines, Memory}
 use Rattle.jc_io.specs.Written.{Stream, Wrote, Interrupted, Written}
 
 -- the answer of a line was written, and the session goes on
@@ -107,6 +109,15 @@ pub record IsPast (bytes : List ℕ) (left : Option (List ℕ)) : Type 0 where
   pub at_limit : (length (with_line_ends whole ++ part) ≡ MAX_SESSION) ⊎ ((length whole ≡ MAX_LINES) × (part ≡ []))
   pub few : length ahead < MAX_LINE
   pub gone : Consumes (Some bytes) left ((with_line_ends whole ++ part) ++ byte ∷ ahead)
+
+-- What was sent of a session's answers, and read of these lines, where a fault stopped it. After a failed read: the
+-- answers of all lines whose LF was read. After a failed write: those of the lines before, whole, and the next one up to
+-- the failure. Past a limit all answers up to it. Without memory: those of the lines before, whole.
+abbrev pub StopsAt : SessionFault → Origin → Session → List ℕ → Option (List ℕ) → Stream → Stream → Type 0
+StopsAt ReadFailed O A bytes left old new = WentToRead O A bytes left old new
+StopsAt WriteFailed O A bytes left old new = WentFront O A bytes left old new
+StopsAt TooManyLines O A bytes left old new = AnsweredAll O A bytes too_many old new × IsPast bytes left
+StopsAt Memory O A bytes left old new = WentWhole O A bytes left old new
 
 -- ---- lines whose bytes may not be known
 

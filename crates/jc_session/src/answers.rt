@@ -95,12 +95,12 @@ fn trace(alloc: Global, debugger: &Debugger) -> Result<String, AllocError>
         (r : AnyReply) → IsTraceReply debugger.now r
         → string_bytes text ≡ reply_text debugger.now.net.names r) }
 {
-    let Some(rows) = debugger.trace() else {
+    let Some(runs) = debugger.trace() else {
         return String::from_str(alloc, "start\n");
     };
     let n = debugger.position();
     let event = &debugger.schedule()[n as usize - 1];
-    block_text(alloc, debugger.net().names(), n, event, rows)
+    block_text(alloc, debugger.net().names(), n, event, runs)
 }
 
 /// The events that aren't stuck, or the line `none`.

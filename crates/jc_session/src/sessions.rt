@@ -1,31 +1,20 @@
 //! Sessions: a scenario is read, and lines are answered one by one. The program calls `session`.
 
-ghost use Rattle.std.specs.Prelude.{◌≡◌, ◌≢◌, ℕ, ◌+◌, ◌<◌, ◌⊎◌, List, Ok, true, false, IfErr, OnOk, OnErr, IsErrOf, IfOk};
+ghost use Rattle.std.specs.Prelude.{◌≡◌, ℕ, ◌+◌, ◌⊎◌, List, Ok, IfErr, OnOk, IsErrOf};
 ghost use Rattle.jc_parser.specs.declared.fault.ScenarioFault.{ScenarioFault as TextFault};
 ghost use Rattle.jc_parser.specs.declared.fault.ScenarioFault.TheVariants as T;
-ghost use Rattle.jc_rules.specs.declared.operation.Event.{Event as AnyEvent};
-ghost use Rattle.jc_rules.specs.Refused.{Cause};
-ghost use Rattle.jc_network.specs.Steps.{stuck_for};
-ghost use Rattle.jc_dump.specs.Lines.{IsNamedStuck};
-ghost use Rattle.jc_dump.specs.Texts.{given_text};
-ghost use Rattle.jc_debug.specs.DebuggerState.{new_session};
 ghost use Rattle.jc_debug.specs.Invariant.{session_of};
-ghost use Rattle.jc_session.specs.Answers.{origin_of, IsFaultLine};
 ghost use Rattle.jc_session.specs.AnswerOf.{origin_in, AllNamed};
-ghost use Rattle.jc_session.specs.RequestKinds.{IsOfAnswer};
-ghost use Rattle.jc_session.specs.Requests.{meaning, asks, quit};
-ghost use Rattle.jc_session.specs.SessionText.{finished, too_many, text_refused, given_stuck, ShowsSession};
-ghost use Rattle.jc_session.specs.Views.{line_of_bytes};
-ghost use Rattle.jc_session.specs.Sent.{OfLines, OfLinesLeft, LosesFront, GoesOn, BreaksOff, AnsweredAll, WentToRead, WentWhole, WentFront, IsPast, ShowsAll, WentRefused, WentGiven, OnScenario};
-ghost use Rattle.jc_io.specs.Written.{sink, Wrote, Interrupted, Written};
+ghost use Rattle.jc_session.specs.SessionText.{finished, too_many, text_refused, given_stuck};
+ghost use Rattle.jc_session.specs.Sent.{OfLines, OfLinesLeft, LosesFront, AnsweredAll, StopsAt, WentToRead, WentWhole, WentFront, IsPast, ShowsAll, WentRefused, WentGiven, OnScenario};
+ghost use Rattle.jc_io.specs.Written.{sink};
 
 use crate::answers::{answer, fault_line};
 use crate::lines::{Lines, Next};
 use jc_debug::Debugger;
 use jc_dump::named_given_text;
-use jc_io::{Failed, Sink, Source, write_all};
-use jc_network::{Stuck, Unstarted};
-use jc_rules::Text;
+use jc_io::{Failed, Sink, Source, write_flushed};
+use jc_network::Unstarted;
 use jc_scenario::{ScenarioFault, read};
 use std::alloc::{AllocError, Global};
 
@@ -63,50 +52,6 @@ impl From<AllocError> for SessionFault {
     }
 }
 
-/// Writes an answer and flushes it. An empty one needs neither.
-fn send<K: Sink>(out: &mut K, text: &str) -> Result<(), SessionFault>
-    ensures ok { OnOk result (Wrote text.now (sink K.Sink out.old) (sink K.Sink out.new)) }
-    ensures err { OnErr result (Interrupted text.now (sink K.Sink out.old) (sink K.Sink out.new)) }
-    ensures kind { IfErr result (λ e. e ≡ SessionFault.WriteFailed) }
-{
-    if text.is_empty() {
-        return Ok(());
-    }
-    if let Err(Failed) = write_all(out, text.as_bytes()) {
-        return Err(SessionFault::WriteFailed);
-    }
-    match out.flush() {
-        Ok(()) => Ok(()),
-        Err(Failed) => Err(SessionFault::WriteFailed),
-    }
-}
-
-/// Answers a line. Returns whether the session goes on.
-fn answer_line<K: Sink>(
-    alloc: Global,
-    debugger: &mut Debugger,
-    line: Option<&[u8]>,
-    out: &mut K,
-) -> Result<bool, SessionFault>
-    requires { AllNamed debugger.old }
-    ensures goes { result ≡ Ok true → GoesOn (origin_in debugger.old) (session_of debugger.old)
-        (line_of_bytes line.entry) (session_of debugger.new) (sink K.Sink out.old) (sink K.Sink out.new) }
-    ensures origin { result ≡ Ok true → origin_in debugger.new ≡ origin_in debugger.old }
-    ensures quits { result ≡ Ok false
-        → (meaning (line_of_bytes line.entry) ≡ asks quit) × (out.new ≡ out.old) }
-    ensures memory { IsErrOf result SessionFault.Memory → out.new ≡ out.old }
-    ensures write { IsErrOf result SessionFault.WriteFailed
-        → BreaksOff (origin_in debugger.old) (session_of debugger.old) (line_of_bytes line.entry)
-        (sink K.Sink out.old) (sink K.Sink out.new) }
-    ensures kind { IfErr result IsOfAnswer }
-{
-    let Some(text) = answer(alloc, debugger, line)? else {
-        return Ok(false);
-    };
-    send(out, text.as_str())?;
-    Ok(true)
-}
-
 /// Answers the lines of a source, each before the next is read, up to `quit` or its end.
 fn converse<S: Source, K: Sink>(
     alloc: Global,
@@ -119,85 +64,41 @@ fn converse<S: Source, K: Sink>(
     ensures finished { OnOk result (OfLines (S.left source.old) (λ l.
         AnsweredAll (origin_in debugger.old) (session_of debugger.old) l finished (sink K.Sink out.old)
         (sink K.Sink out.new))) }
-    ensures too_many { IsErrOf result SessionFault.TooManyLines
-        → OfLinesLeft (S.left source.old) (S.left source.new) (λ l left.
-        AnsweredAll (origin_in debugger.old) (session_of debugger.old) l too_many (sink K.Sink out.old)
-        (sink K.Sink out.new) × IsPast l left) }
-    // After a failed read: the answers of all lines whose LF was read.
-    ensures read { IsErrOf result SessionFault.ReadFailed
-        → OfLinesLeft (S.left source.old) (S.left source.new) (λ l left.
-        WentToRead (origin_in debugger.old) (session_of debugger.old) l left
-        (sink K.Sink out.old) (sink K.Sink out.new)) }
-    // Without memory: those of the lines before, whole.
-    ensures memory { IsErrOf result SessionFault.Memory
-        → OfLinesLeft (S.left source.old) (S.left source.new) (λ l left.
-        WentWhole (origin_in debugger.old) (session_of debugger.old) l left
-        (sink K.Sink out.old) (sink K.Sink out.new)) }
-    // After a failed write: those of the lines before, whole, and the next one up to the failure.
-    ensures write { IsErrOf result SessionFault.WriteFailed
-        → OfLinesLeft (S.left source.old) (S.left source.new) (λ l left.
-        WentFront (origin_in debugger.old) (session_of debugger.old) l left
-        (sink K.Sink out.old) (sink K.Sink out.new)) }
+    ensures stopped { IfErr result (λ fault. OfLinesLeft (S.left source.old) (S.left source.new) (λ l left.
+        StopsAt fault (origin_in debugger.old) (session_of debugger.old) l left (sink K.Sink out.old)
+        (sink K.Sink out.new))) }
     // Where no read failed, what was read is a prefix of what was left.
     ensures left { IsErrOf result SessionFault.ReadFailed ⊎ LosesFront (S.left source.old) (S.left source.new) }
-    // Failures come with these answers alone.
+    // A failure of the source comes with this fault alone.
     ensures reads { (IsErrOf result SessionFault.ReadFailed → S.failures source.new ≡ S.failures source.old + 1)
         × ((IsErrOf result SessionFault.ReadFailed → ⊥) → S.failures source.new ≡ S.failures source.old) }
-    ensures writes { (IsErrOf result SessionFault.WriteFailed → K.failures out.new ≡ K.failures out.old + 1)
-        × ((IsErrOf result SessionFault.WriteFailed → ⊥) → K.failures out.new ≡ K.failures out.old) }
 {
     let mut lines = Lines::new();
     'lines: loop {
         match lines.next(source) {
-            Ok(Next::Whole) => match answer_line(alloc, debugger, lines.line.content(true), out) {
-                Ok(true) => {}
-                Ok(false) => return Ok(()),
-                Err(fault) => return Err(fault),
-            },
-            Ok(Next::Last) => match answer_line(alloc, debugger, lines.line.content(false), out) {
-                Ok(_) => return Ok(()),
-                Err(fault) => return Err(fault),
-            },
+            Ok(Next::Whole) => {
+                let Some(text) = answer(alloc, debugger, lines.line.content(true))? else {
+                    return Ok(());
+                };
+                match write_flushed(out, text.as_str().as_bytes()) {
+                    Ok(()) => {}
+                    Err(Failed) => return Err(SessionFault::WriteFailed),
+                }
+            }
+            Ok(Next::Last) => {
+                let Some(text) = answer(alloc, debugger, lines.line.content(false))? else {
+                    return Ok(());
+                };
+                match write_flushed(out, text.as_str().as_bytes()) {
+                    Ok(()) => return Ok(()),
+                    Err(Failed) => return Err(SessionFault::WriteFailed),
+                }
+            }
             Ok(Next::End) => return Ok(()),
             Ok(Next::TooMany) => return Err(SessionFault::TooManyLines),
             Err(Failed) => return Err(SessionFault::ReadFailed),
         }
     }
-}
-
-/// Writes the line of a refused text. Want of memory has no line.
-fn refuse<K: Sink>(alloc: Global, fault: &ScenarioFault, out: &mut K) -> Result<(), SessionFault>
-    ensures ok { OnOk result (Written (IsFaultLine fault.now) (sink K.Sink out.old) (sink K.Sink out.new)) }
-    ensures memory { IsErrOf result SessionFault.Memory → out.new ≡ out.old }
-    ensures write { IsErrOf result SessionFault.WriteFailed
-        → (text : List ℕ) × IsFaultLine fault.now text
-        × Interrupted text (sink K.Sink out.old) (sink K.Sink out.new) }
-    ensures kind { IfErr result IsOfAnswer }
-{
-    let line = fault_line(alloc, fault.refusal(), fault.place())?;
-    send(out, line.as_str())
-}
-
-/// Writes the lines of a given event that is stuck, by its number from 1 and the names of replicas.
-fn show_stuck<K: Sink>(
-    alloc: Global,
-    names: &[Text],
-    at: u64,
-    stuck: &Stuck,
-    out: &mut K,
-) -> Result<(), SessionFault>
-    requires { IsNamedStuck names.now stuck.now }
-    ensures ok { OnOk result ((why : Cause) (event : AnyEvent)
-        → stuck.now ≡ stuck_for why event
-        → Wrote (given_text names.now at why event) (sink K.Sink out.old) (sink K.Sink out.new)) }
-    ensures memory { IsErrOf result SessionFault.Memory → out.new ≡ out.old }
-    ensures write { IsErrOf result SessionFault.WriteFailed → (why : Cause) (event : AnyEvent)
-        → stuck.now ≡ stuck_for why event
-        → Interrupted (given_text names.now at why event) (sink K.Sink out.old) (sink K.Sink out.new) }
-    ensures kind { IfErr result IsOfAnswer }
-{
-    let text = named_given_text(alloc, names, at, stuck)?;
-    send(out, text.as_str())
 }
 
 /// A session: reads the scenario, and answers the lines one by one, each before the next is read.
@@ -256,17 +157,21 @@ pub fn session<S: Source, K: Sink>(
     let scenario = match read(alloc, scenario) {
         Ok(scenario) => scenario,
         Err(fault) => {
-            return match refuse(alloc, &fault, out) {
-                Ok(()) => Ok(SessionEnd::TextRefused(fault)),
-                Err(fault) => Err(fault),
-            };
+            let line = fault_line(alloc, fault.refusal(), fault.place())?;
+            match write_flushed(out, line.as_str().as_bytes()) {
+                Ok(()) => return Ok(SessionEnd::TextRefused(fault)),
+                Err(Failed) => return Err(SessionFault::WriteFailed),
+            }
         }
     };
-    let mut debugger = match Debugger::new(alloc, scenario) {
+    let mut debugger = match Debugger::of(alloc, scenario) {
         Ok(debugger) => debugger,
         Err(Unstarted::Given { names, at, stuck }) => {
-            show_stuck(alloc, &names, at, &stuck, out)?;
-            return Ok(SessionEnd::GivenStuck);
+            let text = named_given_text(alloc, &names, at, &stuck)?;
+            match write_flushed(out, text.as_str().as_bytes()) {
+                Ok(()) => return Ok(SessionEnd::GivenStuck),
+                Err(Failed) => return Err(SessionFault::WriteFailed),
+            }
         }
         Err(Unstarted::Memory) => return Err(SessionFault::Memory),
     };

@@ -91,7 +91,8 @@ fn clears<S: TreeStore>(
 {
     let mut trace = Trace::new(alloc);
     let ids = left_after(alloc, store, deps, at, what, &mut trace)?;
-    Ok(ids.as_slice() == left && trace.rows() == rows && trace.depth() == 0)
+    let shown = trace.to_rows(alloc)?;
+    Ok(ids.as_slice() == left && shown.as_slice() == rows && trace.depth() == 0)
 }
 
 /// A key of the map is cleared: its value goes, and an identifier of its set stays.

@@ -123,7 +123,7 @@ pub fn gives<S: TreeStore>(
 {
     let mut trace = Trace::new(alloc);
     let outcome = given(alloc, store, vars, expr, &mut trace);
-    if trace.rows().len() == rules {
+    if trace.mark().rows == rules {
         is_as(&outcome, want)
     } else {
         Ok(false)
@@ -169,7 +169,7 @@ fn of_a_map<S: TreeStore>(keys: &Keys, store: &S) -> Result<bool, AllocError>
     vars.insert(name, bound)?;
     let mut trace = Trace::new(keys.alloc);
     let outcome = eval_in_map(keys.alloc, store, &vars, &expr, &mut trace);
-    Ok(trace.rows().len() == 4 && is_as(&outcome, Want::Value)?)
+    Ok(trace.mark().rows == 4 && is_as(&outcome, Want::Value)?)
 }
 
 /// Whether expressions in a list whose first element is deleted give what they should.

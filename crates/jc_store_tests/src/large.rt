@@ -14,7 +14,7 @@ const MANY: u64 = 60_000;
 /// One key in so many is put last.
 const EACH: u64 = 60;
 
-fn element(counter: u64) -> Key {
+pub fn element(counter: u64) -> Key {
     Key::Elem(Id {
         counter,
         replica: 0,

@@ -5,6 +5,8 @@
 #[cfg(test)]
 mod by_hand;
 #[cfg(test)]
+mod chains;
+#[cfg(test)]
 mod clearing;
 #[cfg(test)]
 mod documents;
@@ -16,6 +18,7 @@ mod faults;
 mod keys;
 #[cfg(test)]
 mod large;
+mod last_steps;
 #[cfg(test)]
 mod long;
 #[cfg(test)]

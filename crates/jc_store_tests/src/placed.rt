@@ -8,8 +8,8 @@ ghost use Rattle.jc_tree.specs.Tree.{HasPlace};
 
 use crate::keys::{At, Keys, Values, ids_of, values_of};
 use crate::steps::{Kind, Step};
-use jc_rules::{Id, Key, Next, Tagged, Value};
-use jc_tree::{Hint, Mark, Place, TreeStore, is_place, place_of};
+use jc_rules::{Id, Key, Next, Tagged, Value, compare_ids};
+use jc_tree::{Hint, Mark, Place, Stretch, TreeStore, is_place, place_of};
 use std::alloc::AllocError;
 
 /// The name of the place, where there is one.
@@ -291,6 +291,49 @@ impl<S: TreeStore> Placed<S> {
         for number in HINTS {
             let step = self.store.step_by(place, at, key, Hint { number });
             if step.next != next || step.present != present {
+                return false;
+            }
+        }
+        true
+    }
+
+    /// Whether single steps from the key say what the stretch says of the elements behind it.
+    fn leads_over(&self, key: &Key, stretch: &Stretch) -> bool
+        requires { HasPlace self.now.at.items (S.tree self.now.store) }
+    {
+        let at = self.at.as_slice();
+        let mut next = self.store.next(at, key);
+        let mut bits = stretch.bits;
+        let mut last = None;
+        for _ in 0..stretch.count {
+            let Some(Next::Elem(id)) = next else {
+                return false;
+            };
+            let element = Key::Elem(id);
+            let ids = self.store.presence(at, &element);
+            let present = ids.is_some_and(|ids| !ids.is_empty());
+            if present != (bits % 2 == 1) || compare_ids(stretch.least, id).is_gt() {
+                return false;
+            }
+            next = self.store.next(at, &element);
+            bits /= 2;
+            last = Some(id);
+        }
+        last == Some(stretch.last)
+    }
+
+    /// Whether each stretch from the key leads over no more elements than were asked for, and says of them what
+    /// single steps say, wherever the store looks first.
+    pub fn leads_alike(&self, key: &Key) -> bool {
+        let at = self.at.as_slice();
+        let Some(place) = name_of(&self.store, at) else {
+            return false;
+        };
+        for number in HINTS {
+            let hint = Hint { number };
+            if let Some(stretch) = self.store.stretch_by(place, at, key, hint, number)
+                && !(stretch.count <= number && self.leads_over(key, &stretch))
+            {
                 return false;
             }
         }

@@ -5,6 +5,7 @@ ghost use Rattle.std.specs.List.{list_all};
 ghost use Rattle.jc_rules.specs.declared.operation.Op.{Op as AnyOp};
 
 use crate::keys::Keys;
+use crate::last_steps::{LAST_STEPS, show_last_steps};
 use crate::texts::is_shown;
 use jc_parser::parse_script;
 use jc_replica::{Replica, ReplicaFault};
@@ -89,7 +90,7 @@ fn take_own(
 }
 
 /// The replica makes the event. What it receives of another one is what that one offers.
-fn make(
+pub fn make(
     rt: &impl Abort,
     replica: &mut Replica<PlainTree>,
     other: &Replica<PlainTree>,
@@ -168,7 +169,10 @@ fn number_of(made: &Result<Trace, ReplicaFault>) -> u8 {
 /// Whether a trace, where there is one, is that of a take.
 fn is_traced(made: &Result<Trace, ReplicaFault>) -> bool {
     match made {
-        Ok(trace) => trace.rows() == [(Rule::RecvOne, 0)].as_slice(),
+        Ok(trace) => match trace.runs() {
+            [run] => run.rule == Rule::RecvOne && run.count == 1 && run.depth == 0,
+            _ => false,
+        },
         Err(_) => true,
     }
 }
@@ -416,6 +420,8 @@ enum Deed {
     Take,
     /// The second one takes many of the first one's, in no order.
     TakeMany,
+    /// Their last steps are looked at.
+    ShowLastSteps,
 }
 
 /// Two new replicas with these scripts do this.
@@ -431,7 +437,15 @@ fn play_with(rt: &impl Abort, keys: &Keys, pair: &mut Pair, deed: Deed) -> Resul
         Deed::GoDeep => go_deep(rt, pair, &mut kept),
         Deed::Take => take_each(rt, pair, &mut kept),
         Deed::TakeMany => take_many(rt, pair, &mut kept),
+        Deed::ShowLastSteps => {
+            show_last_steps(rt, &mut pair.a, &mut pair.b);
+            Ok(())
+        }
     }
+}
+
+pub fn last_steps(rt: &impl Abort, keys: &Keys) -> Result<(), AllocError> {
+    play(rt, keys, &LAST_STEPS, Deed::ShowLastSteps)
 }
 
 pub fn meeting(rt: &impl Abort, keys: &Keys) -> Result<(), AllocError> {

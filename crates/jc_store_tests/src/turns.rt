@@ -1,10 +1,11 @@
 //! The tests by their names. The keys have one owner here, and two new stores another, since an owner of much is dear to
 //! prove.
 
+use crate::chains::change_chains;
 use crate::documents::all_work;
 use crate::keys::Keys;
 use crate::large::hold_many;
-use crate::replicas::{deepest_cursor, meeting, takings};
+use crate::replicas::{deepest_cursor, last_steps, meeting, takings};
 use crate::steps::Step;
 use crate::tables::{change_and_undo, many_changes, worked_steps};
 use crate::texts::{keys_and_identifiers, show_members};
@@ -24,6 +25,7 @@ pub enum Turn {
     Steps(&'static str, Steps, Steps),
     Changes(Steps),
     Walk,
+    Chains,
     ManyKeys,
     Members,
 }
@@ -33,6 +35,7 @@ fn take(rt: &impl Abort, keys: &Keys, twins: &mut Twins, turn: &Turn) -> Result<
         Turn::Steps(title, way, steps) => twins.play_there(rt, keys, title, way, steps),
         Turn::Changes(way) => change_and_undo(rt, keys, twins, way),
         Turn::Walk => walk_all(rt, keys, twins),
+        Turn::Chains => change_chains(rt, keys, twins),
         Turn::ManyKeys => hold_many(rt, keys, twins),
         Turn::Members => show_members(rt, keys, twins),
     }
@@ -49,6 +52,7 @@ enum Test {
     WorkedSteps,
     ManyChanges,
     StoresWalkAlike,
+    ListsGoOnAlike,
     ManyKeys,
     KeysAndIdentifiers,
     Trees,
@@ -56,6 +60,7 @@ enum Test {
     Meeting,
     DeepestCursor,
     Takings,
+    LastSteps,
 }
 
 fn run(rt: &impl Abort, keys: &Keys, test: Test) -> Result<(), AllocError> {
@@ -63,6 +68,7 @@ fn run(rt: &impl Abort, keys: &Keys, test: Test) -> Result<(), AllocError> {
         Test::WorkedSteps => worked_steps(rt, keys),
         Test::ManyChanges => many_changes(rt, keys),
         Test::StoresWalkAlike => in_new_stores(rt, keys, &Turn::Walk),
+        Test::ListsGoOnAlike => in_new_stores(rt, keys, &Turn::Chains),
         Test::ManyKeys => in_new_stores(rt, keys, &Turn::ManyKeys),
         Test::KeysAndIdentifiers => keys_and_identifiers(rt, keys),
         Test::Trees => in_new_stores(rt, keys, &Turn::Members),
@@ -70,6 +76,7 @@ fn run(rt: &impl Abort, keys: &Keys, test: Test) -> Result<(), AllocError> {
         Test::Meeting => meeting(rt, keys),
         Test::DeepestCursor => deepest_cursor(rt, keys),
         Test::Takings => takings(rt, keys),
+        Test::LastSteps => last_steps(rt, keys),
     }
 }
 
@@ -91,6 +98,11 @@ fn many_changes_are_taken_back(rt: HostRuntime) -> Result<(), Fail> {
 #[test]
 fn stores_walk_alike(rt: HostRuntime) -> Result<(), Fail> {
     Ok(run_with_keys(&rt, rt.alloc(), Test::StoresWalkAlike)?)
+}
+
+#[test]
+fn lists_go_on_alike(rt: HostRuntime) -> Result<(), Fail> {
+    Ok(run_with_keys(&rt, rt.alloc(), Test::ListsGoOnAlike)?)
 }
 
 #[test]
@@ -121,6 +133,11 @@ fn replicas_meet(rt: HostRuntime) -> Result<(), Fail> {
 #[test]
 fn the_deepest_cursor(rt: HostRuntime) -> Result<(), Fail> {
     Ok(run_with_keys(&rt, rt.alloc(), Test::DeepestCursor)?)
+}
+
+#[test]
+fn last_steps_are_returned(rt: HostRuntime) -> Result<(), Fail> {
+    Ok(run_with_keys(&rt, rt.alloc(), Test::LastSteps)?)
 }
 
 #[test]

@@ -71,6 +71,8 @@ impl Twins {
             && self.is_same_after(key)
             && self.plain.steps_alike(key)
             && self.arena.steps_alike(key)
+            && self.plain.leads_alike(key)
+            && self.arena.leads_alike(key)
             && self.plain.reads_alike(key)
             && self.arena.reads_alike(key)
     }

@@ -15,7 +15,7 @@ const STEPS: u64 = 2_000;
 const DEEPEST: usize = 6;
 
 /// The number after this one, of which the greater half looks like chance.
-fn next_number(number: u64) -> u64 {
+pub fn next_number(number: u64) -> u64 {
     number
         .wrapping_mul(6_364_136_223_846_793_005)
         .wrapping_add(1_442_695_040_888_963_407)

@@ -17,6 +17,8 @@ use Rattle.jc_tree.specs.Tree.{least_after, is_after, count_present}
 use Rattle.jc_tree.specs.Undo.{removed}
 use Rattle.jc_tree.specs.Numbered.{Numbering, IsNumbered, at_number, shown, column_entries}
 use Rattle.jc_tree.specs.Tables.{MayNumber, AreColumnsWithin, IsBare, flat_of}
+use Rattle.jc_tree.specs.Blocks.{Members, AreFit}
+use Rattle.jc_tree.proofs.FitNodesLemmas.{fit_seen}
 use Rattle.jc_tree.proofs.ArenaStepsLemmas.{least_by_kind}
 use Rattle.jc_tree.proofs.ColumnLemmas.{there_above_column, further_above_column, none_above_column, popped_column}
 use Rattle.jc_tree.proofs.CountedLemmas.{count_cons, one}
@@ -94,6 +96,10 @@ module _ (k : Key) (t u : Numbering) (m l : List (Option ℕ)) (r : List (Option
       presences = (may_same k p t u g w.presences ∙ ap (λ (d : Flat). d.presences) v) j;
       links = e j;
     }
+
+-- blocks stay fit where a key may have got a number
+pub fit_stays : (k : Key) (t u : Numbering) (p : List (Option (List Id))) (x : List (Option Next)) (bs : List Members) → {m l : List (Option ℕ)} {r : List (Option Register)} → AreColumnsWithin t m l r p x → MayNumber k t u → AreFit t.keys (column_entries x t) (column_entries p t) bs → AreFit u.keys (column_entries x u) (column_entries p u) bs
+fit_stays k t u p x bs w g fit = fit_seen k t u g _ _ _ _ bs (may_same k x t u g w.links) (may_same k p t u g w.presences) fit
 
 -- no more sets have an identifier than the order has keys
 one_at_most : (s : List Id) → one s ≤ 1

@@ -32,3 +32,6 @@ pub mod TablesLemmas
 pub mod LentLemmas
 pub mod FlagsLemmas
 pub mod ArenaNodeLemmas
+pub mod BlocksLemmas
+pub mod FitNodesLemmas
+pub mod StretchesLemmas

@@ -216,7 +216,7 @@ module _ {X : Type 0} where
   none_behind k (f ∷ es) a = rw a.0 (none_behind k es a.1)
 
   -- what is found without an entry
-  find_removed : (j k : Key) (es : List (Key × X)) → AreSorted es → find key_cmp j (removed key_cmp k es) ≡ cond (same j k) None (find key_cmp j es)
+  pub find_removed : (j k : Key) (es : List (Key × X)) → AreSorted es → find key_cmp j (removed key_cmp k es) ≡ cond (same j k) None (find key_cmp j es)
   find_removed j k [] h = go (same j k)
     where
       go : (b : Bool) → find {X = X} key_cmp j [] ≡ cond b None (find {X = X} key_cmp j [])

@@ -16,3 +16,5 @@ pub mod Counted
 pub mod Numbered
 pub mod Flags
 pub mod Tables
+pub mod Blocks
+pub mod Stretches

@@ -6,6 +6,7 @@ use Rattle.jc_rules.specs.declared.key.Next.{Next}
 use Rattle.jc_rules.specs.Context.{Register}
 use Rattle.jc_tree.specs.Tree.{count_present}
 use Rattle.jc_tree.specs.Arena.{Flat}
+use Rattle.jc_tree.specs.Blocks.{Members, AreFit}
 use Rattle.jc_tree.specs.Numbered.{Numbering, IsNumbered, GetsNumber, at_number, column_entries}
 
 -- the keys are as they were, but that the key may have got a number
@@ -33,11 +34,12 @@ pub record AreColumnsWithin (t : Numbering) (m l : List (Option ℕ)) (r : List 
   pub presences : length p ≤ length t.keys
   pub links : length x ≤ length t.keys
 
--- so it is, and as many presence sets have an identifier
+-- so it is, as many presence sets have an identifier, and the blocks are fit
 pub record IsNodeOf (t : Numbering) (m l : List (Option ℕ)) (r : List (Option Register)) (p : List (Option (List Id)))
-    (x : List (Option Next)) (present : ℕ) : Type 0 where
+    (x : List (Option Next)) (present : ℕ) (bs : List Members) : Type 0 where
   pub within : AreColumnsWithin t m l r p x
   pub count : present ≡ count_present (column_entries p t)
+  pub fit : AreFit t.keys (column_entries x t) (column_entries p t) bs
 
 -- nothing stands at the number in any column
 pub record IsBare (n : ℕ) (m l : List (Option ℕ)) (r : List (Option Register)) (p : List (Option (List Id)))

@@ -16,7 +16,7 @@ use crate::ids::Ids;
 use crate::lists::Pairs;
 use crate::node::{Change, Former};
 use crate::small_former::{Room, SmallFormer, former_of_node, make_room};
-use crate::store::{Hint, Mark, Place, Step, TreeStore};
+use crate::store::{Hint, Mark, Place, Step, Stretch, TreeStore};
 use jc_rules::{Id, Key, Next, Tagged, Value};
 use std::alloc::{AllocError, Global};
 
@@ -302,6 +302,18 @@ impl TreeStore for ArenaTree {
     #[inline(always)]
     fn step_by(&self, place: Place, at: &[Tagged], key: &Key, hint: Hint) -> Step {
         self.node(NodeId::new(place.number)).step(key, hint)
+    }
+
+    fn stretch_by(
+        &self,
+        place: Place,
+        at: &[Tagged],
+        key: &Key,
+        hint: Hint,
+        most: usize,
+    ) -> Option<Stretch> {
+        self.node(NodeId::new(place.number))
+            .stretch(key, hint, most)
     }
 
     fn set_next_at(

@@ -1,22 +1,29 @@
 //! The nodes of the fast store: contexts that name their children by number.
 
-ghost use Rattle.std.specs.Prelude.{◌≡◌, ◌≤◌, ◌+◌, ◌↔◌, ℕ, ◌++◌, cond, None, is_some, option_copied, ◌||◌, Contains, IfOk, IsTrue, OnOk, OnErr};
+ghost use Rattle.std.specs.Prelude.{◌≡◌, ◌<◌, ◌≤◌, ◌+◌, ◌↔◌, ℕ, List, ◌++◌, length, take, slice_get, cond, Some, None, is_some, option_copied, ◌||◌, Contains, IfOk, IfSome, IsTrue, OnOk, OnErr};
 ghost use Rattle.std.specs.List.{AllByRecursion};
 ghost use Rattle.jc_rules.specs.Order.{key_cmp};
 ghost use Rattle.jc_rules.specs.Entries.{IsRising, find, keys_of};
 ghost use Rattle.jc_rules.specs.Paths.{HasContext};
 ghost use Rattle.jc_tree.specs.Tree.{or_no_entries, least_after, has_ids, count_present, keys_lent};
-ghost use Rattle.jc_tree.specs.Numbered.{at_number};
+ghost use Rattle.jc_tree.specs.Numbered.{IsNumbered, at_number, column_entries};
+ghost use Rattle.jc_tree.specs.Blocks.{AreFit, AreNumbered, DifferAt, IsNumberIn};
+ghost use Rattle.jc_tree.specs.Stretches.{LeadsOverEntries};
+ghost use Rattle.jc_rules.specs.declared.key.Key.{Key as AnyKey};
+ghost use Rattle.jc_rules.specs.declared.key.Key.TheVariants.{Elem};
+ghost use Rattle.jc_rules.specs.declared.key.Next.{Next as AnyNext};
+ghost use Rattle.jc_rules.specs.declared.key.Next.TheVariants.{Elem as To};
 ghost use Rattle.jc_tree.specs.Tables.{AreColumnsWithin, IsBare, IsTrimmed, flat_of};
 ghost use Rattle.jc_tree.specs.Arena.{blank, new_flat, flat_keys, child_number, is_in, with_child_number, IsInside, changed_flat, former_of_flat, restored_flat};
 
+use crate::blocks::{Blocks, MOST, lesser_id};
 use crate::columns::{cut, value_at};
 use crate::ids::Ids;
 use crate::keys::KeyTable;
 use crate::lists::Pairs;
 use crate::node::{Change, Former};
 use crate::presences::{Presences, is_inhabited};
-use crate::store::{Hint, Step};
+use crate::store::{Hint, Step, Stretch};
 use crate::tables::{
     add_in, key_above_in, put_in, put_set_in, put_value_in, restore_in, restore_set_in,
     restore_value_in, take_out_in, value_in, value_near,
@@ -118,6 +125,7 @@ pub struct ArenaNode {
     presences: Presences,
     links: Vec<Option<Link>>,
     present: usize,
+    blocks: Blocks,
 }
 
 impl Model for ArenaNode {
@@ -129,7 +137,7 @@ impl Model for ArenaNode {
     ghost view = { λ a. flat_of a.keys a.maps.items a.lists.items a.registers.items a.presences a.links.items };
 
     ghost invariant = { λ a. IsNodeOf a.keys a.maps.items a.lists.items a.registers.items a.presences
-        a.links.items a.present };
+        a.links.items a.present a.blocks };
 }
 
 /// How many of at most `most` sets have an identifier after one set changed. `count` had one before;
@@ -174,6 +182,23 @@ fn hint_after(link: Option<&Link>, hint: Hint) -> Hint {
     }
 }
 
+/// The element that follows, if one does.
+fn element_of(next: Option<Next>) -> Option<Id>
+    ensures { IfSome result (λ id. next ≡ Some (To id)) }
+{
+    match next {
+        Some(Next::Elem(id)) => Some(id),
+        _ => None,
+    }
+}
+
+/// The bit of an element, by whether it is present.
+fn bit_of(is_present: bool) -> u64
+    ensures { result ≡ cond is_present 1 0 }
+{
+    if is_present { 1 } else { 0 }
+}
+
 /// Whether there is a map, a list or a register at the number.
 fn has_tag(
     maps: &[Option<NodeId>],
@@ -205,6 +230,115 @@ fn is_bare(
         && value_at(links, number).is_none()
 }
 
+/// The number of the key, where it has one and there are blocks.
+fn number_in(blocks: &Blocks, keys: &KeyTable, key: &Key) -> Option<usize>
+    ensures number { IsNumberIn result key.now keys.now.keys blocks.now }
+    ensures distinct { AreNumbered keys.now.keys }
+    ensures numbered { IsNumbered keys.now }
+{
+    keys.are_numbered();
+    if blocks.is_empty() {
+        return None;
+    }
+    keys.number(key)
+}
+
+/// Appends the element that follows the block's last one to the block, if it is in none. Returns whether it
+/// was appended.
+fn grow_once(
+    blocks: &mut Blocks,
+    block: usize,
+    keys: &KeyTable,
+    links: &[Option<Link>],
+    presences: &Presences,
+) -> bool
+    requires { length links.now ≤ length keys.now.keys }
+    ensures { AreFit keys.now.keys (column_entries links.now keys.now) (column_entries presences.now keys.now) blocks.old
+        → AreFit keys.now.keys (column_entries links.now keys.now) (column_entries presences.now keys.now) blocks.new }
+{
+    let Some(last) = blocks.last(block) else {
+        return false;
+    };
+    let Some(link) = value_at(links, last) else {
+        return false;
+    };
+    let Next::Elem(id) = link.next() else {
+        return false;
+    };
+    let Some(number) = keys.number_near(&Key::Elem(id), link.hint as usize) else {
+        return false;
+    };
+    blocks.add(block, number, id, presences.is_inhabited(number))
+}
+
+/// Appends the elements that follow the block's last one, as far as they are in no block.
+fn grow(
+    blocks: &mut Blocks,
+    block: usize,
+    keys: &KeyTable,
+    links: &[Option<Link>],
+    presences: &Presences,
+)
+    requires { length links.now ≤ length keys.now.keys }
+    ensures { AreFit keys.now.keys (column_entries links.now keys.now) (column_entries presences.now keys.now) blocks.old
+        → AreFit keys.now.keys (column_entries links.now keys.now) (column_entries presences.now keys.now) blocks.new }
+{
+    for step in 0..MOST {
+        if !grow_once(blocks, block, keys, links, presences) {
+            return;
+        }
+    }
+}
+
+/// Splits the number's block, if it is full, so that it has room for an element behind the number.
+fn split(
+    blocks: &mut Blocks,
+    number: Option<usize>,
+    keys: &KeyTable,
+    links: &[Option<Link>],
+    presences: &Presences,
+)
+    requires { length links.now ≤ length keys.now.keys }
+    ensures fit { AreFit keys.now.keys (column_entries links.now keys.now) (column_entries presences.now keys.now) blocks.old
+        → AreFit keys.now.keys (column_entries links.now keys.now) (column_entries presences.now keys.now) blocks.new }
+    ensures none { number ≡ None → blocks.new ≡ blocks.old }
+{
+    let Some(number) = number else {
+        return;
+    };
+    let Some(block) = blocks.split(number) else {
+        return;
+    };
+    grow(blocks, block, keys, links, presences);
+}
+
+/// Mends the blocks where what follows the number's key changed: what was behind the number is cut off its
+/// block, and what follows now is appended.
+fn relink(
+    blocks: &mut Blocks,
+    number: Option<usize>,
+    keys: &KeyTable,
+    links: &[Option<Link>],
+    presences: &Presences,
+)
+    requires { length links.now ≤ length keys.now.keys }
+    ensures some { IfSome number (λ n. (key : AnyKey) (old : List (AnyKey × AnyNext))
+        → AreNumbered keys.now.keys → slice_get keys.now.keys n ≡ Some key
+        → DifferAt key old (column_entries links.now keys.now)
+        → AreFit keys.now.keys old (column_entries presences.now keys.now) blocks.old
+        → AreFit keys.now.keys (column_entries links.now keys.now) (column_entries presences.now keys.now) blocks.new) }
+    ensures none { number ≡ None → blocks.new ≡ blocks.old }
+{
+    let Some(number) = number else {
+        return;
+    };
+    blocks.cut_after(number);
+    let Some(block) = blocks.block_of(number) else {
+        return;
+    };
+    grow(blocks, block, keys, links, presences);
+}
+
 /// Takes the last keys away under which nothing stands, and cuts the columns to their number.
 fn trim(
     keys: &mut KeyTable,
@@ -223,6 +357,7 @@ fn trim(
         ≡ flat_of keys.old maps.old.items lists.old.items registers.old.items presences.old links.old.items }
     ensures trimmed { IsTrimmed keys.new maps.new.items lists.new.items registers.new.items presences.new
         links.new.items }
+    ensures keys { keys.new.keys ≡ take (length keys.new.keys) keys.old.keys }
 {
     while let Some(last) = keys.len().checked_sub(1) {
         if !is_bare(
@@ -257,6 +392,7 @@ impl ArenaNode {
             presences: Presences::new(alloc),
             links: Vec::new(alloc),
             present: 0,
+            blocks: Blocks::new(alloc),
         }
     }
 
@@ -375,6 +511,63 @@ impl ArenaNode {
         }
     }
 
+    /// What lies behind the key, so many elements at most, as far as its block tells; `hint` is where to look
+    /// first.
+    fn stretch_in_block(&self, key: &Key, hint: Hint, most: usize) -> Option<Stretch>
+        ensures over { IfSome result (λ s.
+            LeadsOverEntries self.now.links self.now.presences key.now s.count s.bits s.least (Elem s.last)) }
+        ensures some { IfSome result (λ s. 0 < s.count) }
+        ensures most { IfSome result (λ s. s.count ≤ most) }
+    {
+        let number = self.keys.number_near(key, hint.number)?;
+        let told = self.blocks.tell(number, most)?;
+        let last = self.keys.element(told.last)?;
+        Some(Stretch {
+            count: told.count,
+            bits: told.bits,
+            least: told.least,
+            last,
+            hint: Hint { number: told.last },
+        })
+    }
+
+    /// The element that follows the key, and what lies behind that as far as its block tells, so many elements
+    /// at most; `hint` is where to look first.
+    fn stretch_of_next(&self, key: &Key, hint: Hint, most: usize) -> Option<Stretch>
+        ensures over { IfSome result (λ s.
+            LeadsOverEntries self.now.links self.now.presences key.now s.count s.bits s.least (Elem s.last)) }
+        ensures some { IfSome result (λ s. 0 < s.count) }
+        ensures most { IfSome result (λ s. s.count ≤ most) }
+    {
+        let most = most.checked_sub(1)?;
+        let step = self.step(key, hint);
+        let id = element_of(step.next)?;
+        let first = Key::Elem(id);
+        let bit = bit_of(self.step(&first, step.hint).present);
+        let behind = self.stretch_in_block(&first, step.hint, most)?;
+        Some(Stretch {
+            count: behind.count + 1,
+            bits: behind.bits.checked_mul(2)?.checked_add(bit)?,
+            least: lesser_id(behind.least, id),
+            last: behind.last,
+            hint: behind.hint,
+        })
+    }
+
+    /// What lies behind the key, so many elements at most, as far as its block tells, or else the block of the
+    /// element that follows; `hint` is where to look first.
+    pub fn stretch(&self, key: &Key, hint: Hint, most: usize) -> Option<Stretch>
+        ensures over { IfSome result (λ s.
+            LeadsOverEntries self.now.links self.now.presences key.now s.count s.bits s.least (Elem s.last)) }
+        ensures some { IfSome result (λ s. 0 < s.count) }
+        ensures most { IfSome result (λ s. s.count ≤ most) }
+    {
+        match self.stretch_in_block(key, hint, most) {
+            Some(stretch) => Some(stretch),
+            None => self.stretch_of_next(key, hint, most),
+        }
+    }
+
     /// The least key with a tag, above the given one.
     pub fn key_after(&self, after: Option<&Key>) -> Option<&Key>
         ensures { option_copied result ≡ least_after (option_copied after.entry)
@@ -452,9 +645,11 @@ impl ArenaNode {
         ensures err { OnErr result (self.new ≡ self.old) }
     {
         let is = !ids.is_empty();
+        let number = number_in(&self.blocks, &self.keys, &key);
         let former = put_set_in(&mut self.keys, &mut self.presences, &key, ids)?;
         let was = is_inhabited(former.as_ref());
         self.present = recounted(self.keys.count(), self.present, was, is);
+        self.blocks.mark(number, is);
         Ok(Former::Presence(key, former))
     }
 
@@ -464,8 +659,24 @@ impl ArenaNode {
         ensures former { IfOk result (λ former. former ≡ former_of_flat (Change.Link key next) self.old) }
         ensures err { OnErr result (self.new ≡ self.old) }
     {
+        self.blocks.make_room(self.keys.len())?;
+        let number = number_in(&self.blocks, &self.keys, &key);
+        split(
+            &mut self.blocks,
+            number,
+            &self.keys,
+            self.links.as_slice(),
+            &self.presences,
+        );
         let hint = hint_of(&self.keys, next);
         let former = put_in(&mut self.keys, &mut self.links, &key, Link::new(next, hint))?;
+        relink(
+            &mut self.blocks,
+            number,
+            &self.keys,
+            self.links.as_slice(),
+            &self.presences,
+        );
         let former = match former {
             Some(link) => Some(link.next()),
             None => None,
@@ -480,8 +691,10 @@ impl ArenaNode {
         ensures former { IfOk result (λ former. former ≡ former_of_flat (Change.AddId key id) self.old) }
         ensures err { OnErr result (self.new ≡ self.old) }
     {
+        let number = number_in(&self.blocks, &self.keys, &key);
         let (former, was) = add_in(&mut self.keys, &mut self.presences, key, id, alloc)?;
         self.present = recounted(self.keys.count(), self.present, was, true);
+        self.blocks.mark(number, true);
         Ok(former)
     }
 
@@ -513,8 +726,10 @@ impl ArenaNode {
         ensures { self.new ≡ restored_flat (Former.Presence key.now former) self.old }
     {
         let is = is_inhabited(former.as_ref());
+        let number = number_in(&self.blocks, &self.keys, key);
         if let Some(ids) = restore_set_in(&self.keys, &mut self.presences, key, former) {
             self.present = recounted(self.keys.count(), self.present, !ids.is_empty(), is);
+            self.blocks.mark(number, is);
         }
     }
 
@@ -527,14 +742,26 @@ impl ArenaNode {
             None => None,
         };
         drop(restore_in(&self.keys, &mut self.links, key, link));
+        let number = number_in(&self.blocks, &self.keys, key);
+        relink(
+            &mut self.blocks,
+            number,
+            &self.keys,
+            self.links.as_slice(),
+            &self.presences,
+        );
     }
 
     /// Takes the identifier out of the key's presence set, where there is one.
     fn take_out_id(&mut self, key: Key, id: Id)
         ensures { self.new ≡ restored_flat (Former.NoId key id) self.old }
     {
+        let number = number_in(&self.blocks, &self.keys, &key);
         let last = take_out_in(&self.keys, &mut self.presences, &key, id);
         self.present = recounted(self.keys.count(), self.present, last, false);
+        if last {
+            self.blocks.mark(number, false);
+        }
     }
 
     /// Takes a change back by its undo record. Keys keep their numbers.
@@ -563,6 +790,7 @@ impl ArenaNode {
         ensures { self.new ≡ restored_flat former self.old }
     {
         self.put_back(former);
+        let count = self.keys.len();
         trim(
             &mut self.keys,
             &mut self.maps,
@@ -571,5 +799,6 @@ impl ArenaNode {
             &mut self.presences,
             &mut self.links,
         );
+        self.blocks.forget_all(self.keys.len(), count);
     }
 }

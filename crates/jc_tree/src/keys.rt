@@ -8,10 +8,11 @@ ghost use Rattle.jc_tree.specs.Tree.{least_after, keys_lent};
 ghost use Rattle.jc_tree.specs.Undo.{removed};
 ghost use Rattle.jc_tree.specs.Numbered.{IsNumbered, GetsNumber};
 ghost use Rattle.jc_rules.specs.declared.key.Key.{Key as AnyKey};
+ghost use Rattle.jc_rules.specs.declared.key.Key.TheVariants.{Elem};
 
 use crate::store::Hint;
 use indexmap::IndexSet;
-use jc_rules::Key;
+use jc_rules::{Id, Key};
 use std::alloc::{AllocError, Global};
 use std::collections::BTreeMap;
 use std::marker::Model;
@@ -68,6 +69,14 @@ impl KeyTable {
         self.order.len()
     }
 
+    /// Does nothing: its contract says what goes for each table.
+    #[inline(always)]
+    pub fn are_numbered(&self)
+        ensures { IsNumbered self.now }
+    {
+        let _ = &self.keys;
+    }
+
     /// The key's number.
     #[inline(never)]
     pub fn number(&self, key: &Key) -> Option<usize>
@@ -86,6 +95,16 @@ impl KeyTable {
         match self.keys.get_index(hint) {
             Some(there) if is_same(there, key) => Some(hint),
             _ => self.number(key),
+        }
+    }
+
+    /// The element whose key has the number.
+    pub fn element(&self, number: usize) -> Option<Id>
+        ensures { IfSome result (λ id. slice_get self.now.keys number ≡ Some (Elem id)) }
+    {
+        match self.keys.get_index(number)? {
+            Key::Elem(id) => Some(*id),
+            _ => None,
         }
     }
 

@@ -4,6 +4,7 @@
 
 mod arena;
 mod arena_node;
+mod blocks;
 mod columns;
 mod entries;
 mod ids;
@@ -19,4 +20,4 @@ mod tables;
 
 pub use arena::ArenaTree;
 pub use plain::PlainTree;
-pub use store::{Hint, Mark, Place, Step, TreeStore, is_place, place_of};
+pub use store::{Hint, Mark, Place, Step, Stretch, TreeStore, is_place, place_of};

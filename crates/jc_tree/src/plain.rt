@@ -14,7 +14,7 @@ ghost use Rattle.jc_tree.specs.Single.{IsKept-single, AreAllKept-single};
 use crate::ids::Ids;
 use crate::lists::{Pairs, copy_place};
 use crate::node::{Change, Former, Node};
-use crate::store::{Hint, Mark, Place, Step, TreeStore};
+use crate::store::{Hint, Mark, Place, Step, Stretch, TreeStore};
 use jc_rules::{Id, Key, Next, Tagged, Value};
 use std::alloc::{AllocError, Global};
 
@@ -197,6 +197,17 @@ impl TreeStore for PlainTree {
             present: node.presence(key).is_some_and(|ids| !ids.is_empty()),
             hint,
         }
+    }
+
+    fn stretch_by(
+        &self,
+        place: Place,
+        at: &[Tagged],
+        key: &Key,
+        hint: Hint,
+        most: usize,
+    ) -> Option<Stretch> {
+        None
     }
 
     fn set_next_at(

@@ -1,7 +1,8 @@
 //! What every store of a document's tree promises; the rules of operations and expressions are written over it.
 
-ghost use Rattle.std.specs.Prelude.{◌≡◌, ◌≤◌, ◌+◌, ◌↔◌, List, [], ◌∷◌, ◌++◌, None, IsTrue, length, take, is_some, option_copied, Contains, IfSome, IfOk, OnOk, OnErr};
+ghost use Rattle.std.specs.Prelude.{◌≡◌, ◌<◌, ◌≤◌, ◌+◌, ◌↔◌, List, [], ◌∷◌, ◌++◌, None, IsTrue, length, take, is_some, option_copied, Contains, IfSome, IfOk, OnOk, OnErr};
 ghost use Rattle.std.specs.List.{AllByRecursion};
+ghost use Rattle.jc_rules.specs.declared.key.Key.TheVariants.{Elem};
 ghost use Rattle.jc_rules.specs.declared.key.Tagged.{Tagged as AnyTagged};
 ghost use Rattle.jc_rules.specs.declared.key.Tagged.TheVariants.{MapT, ListT, RegT};
 ghost use Rattle.jc_rules.specs.Order.{id_cmp, key_cmp};
@@ -14,6 +15,7 @@ ghost use Rattle.jc_rules.specs.WellFormed.{IsWellFormedContext, IsWellFormedReg
 ghost use Rattle.jc_tree.specs.declared.store.Place.{Place as AnyPlace};
 ghost use Rattle.jc_rules.specs.History.{timeline, begun};
 ghost use Rattle.jc_tree.specs.Tree.{Tree, HasPlace, here, or_no_entries, IsChanged, NamesStay, AllNamesStay, least_after, has_ids, count_present, all_keys, keys_lent};
+ghost use Rattle.jc_tree.specs.Stretches.{LeadsOver};
 
 use jc_rules::{Id, Key, Next, Tagged, Value};
 use std::alloc::{AllocError, Global};
@@ -45,6 +47,21 @@ pub struct Step {
     /// Whether the key's presence set has an identifier.
     pub present: bool,
     /// Where to look first for the key that follows.
+    pub hint: Hint,
+}
+
+/// What lies behind a key of a list, as far as a store tells it at once.
+#[derive(Clone, Copy, Debug, PartialEq, Eq)]
+pub struct Stretch {
+    /// How many elements: one or more.
+    pub count: usize,
+    /// A bit for each, the lowest that of the first: whether its presence set has an identifier.
+    pub bits: u64,
+    /// None of them has a lesser identifier.
+    pub least: Id,
+    /// The last of them.
+    pub last: Id,
+    /// Where to look first for the last one.
     pub hint: Hint,
 }
 
@@ -230,6 +247,23 @@ pub trait TreeStore {
         requires named { names self.now place at.now }
         ensures next { result.next ≡ next_of key.now (here at.now (tree self.now)) }
         ensures present { result.present ≡ has_ids (or_no_entries (presence key.now (here at.now (tree self.now)))) };
+
+    /// What lies behind the key of a list at the place, `most` elements at most, as far as the store tells it
+    /// at once, which may be not at all. `place` is the store's name for the place, `hint` is where to look first.
+    fn stretch_by(
+        &self,
+        place: Place,
+        at: &[Tagged],
+        key: &Key,
+        hint: Hint,
+        most: usize,
+    ) -> Option<Stretch>
+        requires there { HasPlace at.now (tree self.now) }
+        requires named { names self.now place at.now }
+        ensures over { IfSome result (λ s.
+            LeadsOver (here at.now (tree self.now)) key.now s.count s.bits s.least (Elem s.last)) }
+        ensures some { IfSome result (λ s. 0 < s.count) }
+        ensures most { IfSome result (λ s. s.count ≤ most) };
 
     /// As `set_next`, for a place whose name is known.
     fn set_next_at(

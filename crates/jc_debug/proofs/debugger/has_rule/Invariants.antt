@@ -1,8 +1,9 @@
 use Rattle.std.proofs.Common.{◌≡◌, ℕ, ◌<◌, Some, slice_get}
+use Rattle.jc_rules.specs.declared.run.Run.{Run}
 use Rattle.jc_debug.proofs.debugger.has_rule.Given as goal
 
--- no row so far has the rule
-abbrev pub invariant-loop-row : goal.invariant-loop-row
-invariant-loop-row l = record {
-  none : (k depth : ℕ) → k < l.row-index → slice_get l.rows k ≡ Some (l.rule, depth) → ⊥;
+-- no row of the runs so far has the rule
+abbrev pub invariant-loop-run : goal.invariant-loop-run
+invariant-loop-run l = record {
+  none : (k : ℕ) (r : Run) → k < l.run-index → slice_get l.runs k ≡ Some r → r.rule ≡ l.rule → 0 < r.count → ⊥;
 }

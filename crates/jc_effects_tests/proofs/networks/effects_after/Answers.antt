@@ -1,9 +1,8 @@
-use Rattle.std.proofs.Common.{◌≡◌, subst}
+use Rattle.std.proofs.Common.{◌≡◌, [], ◌∷◌, ◌++◌, ap, subst, ◌∙◌}
 use Rattle.jc_rules.specs.Step.{Network, StepIn}
 use Rattle.jc_rules.proofs.VersionLemmas.{one_after_in}
 use Rattle.jc_scenario.specs.Views.{scenario_view}
 use Rattle.jc_network.specs.Given.{before_given}
-use Rattle.jc_journal.specs.Before.{IsNoted}
 use Rattle.jc_effects_tests.proofs.networks.effects_after.Goals as goal
 
 -- the same events lead to one network
@@ -15,8 +14,8 @@ event_effects-requires-clause-made g c =
       subst (λ (N : Network). StepIn N c.args.event.now c.step.new.self.history.now c.in-Ok.field-0.rows) same c.in-Ok.ensures.made.step,
     )
 
-pub event_effects-requires-clause-noted : goal.event_effects-requires-clause-noted
-event_effects-requires-clause-noted g c =
+pub event_effects-requires-clause-last : goal.event_effects-requires-clause-last
+event_effects-requires-clause-last g c =
     let same : c.in_ok-new.new.history.now ≡ c.in_ok-old.old.history.now =
     one_after_in (before_given (scenario_view c.args.scenario.now)) c.args.events.now c.in_ok-new.new.history.now c.in_ok-old.old.history.now c.in_ok-new.ensures c.in_ok-old.ensures in
-    subst (λ (N : Network). IsNoted c.args.event.now N.states c.in_ok-before.before) same c.in_ok-before.ensures
+    record { before = c.in_ok-new.new.history.earlier; earlier = c.in-Ok.ensures.made.earlier ∙ ap (λ (N : Network). c.in_ok-new.new.history.earlier ++ N ∷ []) same }

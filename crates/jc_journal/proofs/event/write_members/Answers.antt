@@ -3,7 +3,7 @@ use Rattle.std.proofs.lemmas.Result.{on_ok_weaker}
 use Rattle.jc_json.specs.Gains.{Gains}
 use Rattle.jc_journal.specs.Operation.{NamedJson}
 use Rattle.jc_journal.specs.EventLine.{event_member, sender_member, given_member, kind_member, new_member, number_member, op_member, effects_member, replica_member, rules_member}
-use Rattle.jc_journal.specs.Parts.{member_tokens, rows_of, differences_at, noted_command, noted_new, noted_op}
+use Rattle.jc_journal.specs.Parts.{member_tokens, rows_of, differences_at, step_command, step_new, step_op}
 use Rattle.jc_journal.proofs.TokensLemmas.{members_then}
 use Rattle.jc_journal.proofs.event.write_members.Goals as goal
 
@@ -12,17 +12,15 @@ returns c =
     let names = c.args.names.now in
     let t = c.args.told.now in
     let s = t.numbered.now in
-    let before = t.before.now in
-    let K = c.args.replica.now.history.now in
-    let m1 : List NamedJson = noted_command before in
+    let m1 : List NamedJson = step_command t.step in
     let m2 : List NamedJson = effects_member names (differences_at t.effects) in
     let m3 : List NamedJson = event_member names s.event ∷ [] in
     let m4 : List NamedJson = sender_member names s.event in
     let m5 : List NamedJson = given_member s.given in
     let m6 : List NamedJson = kind_member s.event ∷ [] in
-    let m7 : List NamedJson = new_member names (noted_new before K) in
+    let m7 : List NamedJson = new_member names (step_new t.step) in
     let m8 : List NamedJson = number_member s.number ∷ [] in
-    let m9 : List NamedJson = op_member names (noted_op s.event before K) in
+    let m9 : List NamedJson = op_member names (step_op t.step) in
     let m10 : List NamedJson = replica_member names s.event ∷ [] in
     let m11 : List NamedJson = rules_member (rows_of t.rules) in
     let g9 : Gains c.write_number.new.out c.write_op_member.new.out (member_tokens m9) =

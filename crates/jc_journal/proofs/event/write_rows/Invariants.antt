@@ -1,8 +1,8 @@
-use Rattle.std.proofs.Common.{drop}
-use Rattle.json.specs.Tree.{items_tokens}
-use Rattle.jc_json.proofs.GainsLemmas.{Wrote}
-use Rattle.jc_journal.specs.EventLine.{rule_items}
+use Rattle.std.proofs.Common.{flat_map, take}
+use Rattle.jc_rules.specs.Runs.{rows_of_all}
+use Rattle.jc_json.specs.Gains.{Gains}
+use Rattle.jc_journal.specs.Parts.{row_tokens}
 use Rattle.jc_journal.proofs.event.write_rows.Given as goal
 
-abbrev pub invariant-loop-rule : goal.invariant-loop-rule
-invariant-loop-rule l = Wrote l.initial.out l.out (items_tokens (rule_items (drop l.rule-index l.rules))) (items_tokens (rule_items l.rules))
+abbrev pub invariant-loop-run : goal.invariant-loop-run
+invariant-loop-run l = Gains l.initial.out l.out (flat_map row_tokens (rows_of_all (take l.run-index l.runs)))

@@ -1,5 +1,5 @@
 use Rattle.std.proofs.Common.{◌∙◌}
-use Rattle.jc_journal.proofs.BeforeLemmas.{found_tells}
+use Rattle.jc_journal.proofs.StuckLineLemmas.{found_tells}
 use Rattle.jc_journal.proofs.lookup.has.Goals as goal
 
 pub returns : goal.returns

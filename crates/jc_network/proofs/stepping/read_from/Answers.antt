@@ -1,7 +1,7 @@
 use Rattle.std.proofs.Common.{Option, sym, subst}
 use Rattle.jc_rules.specs.declared.id.Id.{Id}
 use Rattle.jc_replica.specs.Answers.{AnswersEvent}
-use Rattle.jc_network.specs.Steps.{receiving_event}
+use Rattle.jc_replica.specs.Received.{receiving_event}
 use Rattle.jc_network.proofs.stepping.read_from.Goals as goal
 
 pub returns-in-None : goal.returns-in-None

@@ -1,7 +1,7 @@
 use Rattle.std.proofs.Common.{◌≡◌, ◌<◌, ◌+◌, Some, length, ◌++◌, slice_get, slice_set, slice_index_or, refl, sym, ◌∙◌, ap, subst, arith}
 use Rattle.jc_replica.specs.Answers.{AnswersEvent}
 use Rattle.jc_replica.specs.Operations.{AreHanded, AreOfOne}
-use Rattle.jc_network.specs.Steps.{receiving_event}
+use Rattle.jc_replica.specs.Received.{receiving_event}
 use Rattle.jc_network.proofs.StepsLemmas.{received}
 use Rattle.jc_network.proofs.HalvesLemmas.{index_get, get_front, get_back, set_front, set_back}
 use Rattle.jc_network.proofs.stepping.receive.Goals as goal

@@ -1,4 +1,4 @@
-use Rattle.std.proofs.Common.{true, false, ◌∙◌, refl}
+use Rattle.std.proofs.Common.{true, false, ◌∙◌}
 use Rattle.jc_scenario.specs.Views.{scenario_view}
 use Rattle.jc_out.specs.Out.{output}
 use Rattle.jc_network.proofs.GivenHistoryLemmas.{has_parts}

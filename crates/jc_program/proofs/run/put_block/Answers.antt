@@ -1,5 +1,6 @@
 use Rattle.std.proofs.Common.{refl}
 use Rattle.std.proofs.lemmas.Result.{on_ok_weaker}
+use Rattle.jc_rules.specs.Runs.{rows_of_all}
 use Rattle.jc_dump.specs.Texts.{block_text}
 use Rattle.jc_io.specs.Written.{sink}
 use Rattle.jc_out.specs.Out.{OutState, output}
@@ -16,5 +17,5 @@ returns-clause-ok g c =
       is_broken = c.args.out.now.is_broken;
     } in
     on_ok_weaker c.push_block.result
-    (λ e. put_adds old new refl refl refl (block_text c.args.names.now c.args.number c.args.event.now c.args.rows.now) e)
+    (λ e. put_adds old new refl refl refl (block_text c.args.names.now c.args.number c.args.event.now (rows_of_all c.args.runs.now)) e)
     c.push_block.ensures.ok

@@ -2,7 +2,7 @@ use Rattle.std.proofs.Common.{IfOk, sym, subst}
 use Rattle.std.proofs.lemmas.Result.{IfOk-weaker}
 use Rattle.jc_requests.specs.Views.{asked_view}
 use Rattle.jc_serve.specs.declared.subjects.Subject.TheVariants as S
-use Rattle.jc_serve.specs.AnswerOf.{AnswersOn, IsSubjectOf}
+use Rattle.jc_serve.specs.AnswerOf.{AnswersOn, AnswersRefusedBy, IsSubjectOf}
 use Rattle.jc_serve.proofs.FindsLemmas.{answers_in, answers_weaker}
 use Rattle.jc_serve.proofs.LimitLemmas.{asked_within}
 use Rattle.jc_serve.proofs.DispatchLemmas.{held_stopped, refused_on, stuck_on, served_on}
@@ -22,8 +22,8 @@ pub returns-in-NoScenario : goal.returns-in-NoScenario
 returns-in-NoScenario c =
     let text = c.args.text.now in
     let r = asked_view c.args.request in
-    let fault = c.in-NoScenario.fault in
-    IfOk-weaker c.answer_refused.result _ _ (λ answer h. subst (λ x. AnswersOn text x r (S.NoScenario fault) answer.items) (sym c.in-NoScenario.is) (refused_on text fault r answer.items h)) c.answer_refused.ensures
+    let why = c.in-NoScenario.why in
+    IfOk-weaker c.answer_refused.result _ _ (λ answer h. subst (λ x. AnswersOn text x r (S.NoScenario why) answer.items) (sym c.in-NoScenario.is) (refused_on text why r answer.items (subst (λ w. AnswersRefusedBy w r answer.items) c.as_slice.ensures.value h))) c.answer_refused.ensures
 
 pub returns-in-StuckGiven : goal.returns-in-StuckGiven
 returns-in-StuckGiven c =

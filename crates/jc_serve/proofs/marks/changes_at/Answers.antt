@@ -9,10 +9,10 @@ pub returns-in-Some : goal.returns-in-Some
 returns-in-Some c = λ rows made.
     let cursor = c.args.cursor.now in
     let x = differences_of c.in-Some.effects in
-    let told = effects_steps c.args.aside.now c.args.here.now c.args.event.now c.in_ok-effects.field-0 (Some x) c.net-2.result.now c.net-3.result.now c.net-2.ensures.net c.net-3.ensures.net (ap differences_in c.in-Some.is) c.in_ok-effects.ensures rows made in
+    let told = effects_steps c.args.aside.now c.args.here.now c.args.event.now c.in_ok-effects.field-0 (Some x) c.net.result.now c.net-2.result.now c.net.ensures.net c.net-2.ensures.net (ap differences_in c.in-Some.is) c.in_ok-effects.ensures rows made in
     changes_told c.args.event.now made.step.before made.step.after cursor x c.differs_at.result told (c.differs_at.ensures ∙ ap (λ p. differs_at p cursor.last x) c.as_slice.ensures.keys)
 
-pub returns : goal.returns
-returns c = λ rows made.
-    let told = effects_steps c.args.aside.now c.args.here.now c.args.event.now c.in_ok-effects.field-0 None c.net-2.result.now c.net-3.result.now c.net-2.ensures.net c.net-3.ensures.net (ap differences_in c.in-None.is) c.in_ok-effects.ensures rows made in
+pub returns-in-None : goal.returns-in-None
+returns-in-None c = λ rows made.
+    let told = effects_steps c.args.aside.now c.args.here.now c.args.event.now c.in_ok-effects.field-0 None c.net.result.now c.net-2.result.now c.net.ensures.net c.net-2.ensures.net (ap differences_in c.in-None.is) c.in_ok-effects.ensures rows made in
     none_changes c.args.event.now made.step.before made.step.after c.args.cursor.now told

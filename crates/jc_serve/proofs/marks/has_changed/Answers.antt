@@ -3,8 +3,11 @@ use Rattle.std.proofs.lemmas.Result.{IfOk-weaker}
 use Rattle.jc_serve.proofs.MarksLemmas.{change_named}
 use Rattle.jc_serve.proofs.marks.has_changed.Goals as goal
 
-pub changes_at-requires : goal.changes_at-requires
-changes_at-requires c = let l = c.last_event-event.ensures.led in (l.rows, l.step)
+pub changes_at-requires-clause-made : goal.changes_at-requires-clause-made
+changes_at-requires-clause-made c = let l = c.last_event-event.ensures.led in (l.rows, l.step)
+
+pub changes_at-requires-clause-last : goal.changes_at-requires-clause-last
+changes_at-requires-clause-last c = c.last_event-event.ensures.led.last
 
 pub returns : goal.returns
 returns c =

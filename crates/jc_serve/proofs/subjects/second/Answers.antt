@@ -1,7 +1,6 @@
 use Rattle.std.proofs.Common.{refl, subst}
 use Rattle.jc_scenario.specs.WellFormed.{Scenario}
 use Rattle.jc_scenario.specs.Views.{scenario_view}
-use Rattle.jc_network.specs.declared.fault.Unstarted.{Unstarted}
 use Rattle.jc_network.specs.Given.{before_given, IsUnstartedFault}
 use Rattle.jc_network.proofs.GivenHistoryLemmas.{told_given}
 use Rattle.jc_looks.proofs.LooksLemmas.{none_stuck}

@@ -1,11 +1,10 @@
-use Rattle.std.proofs.Common.{refl, sym, subst}
-use Rattle.std.proofs.lemmas.Result.{IfOk-weaker}
-use Rattle.jc_serve.specs.AnswerOf.{IsNewFor}
-use Rattle.jc_serve.specs.Subjects.{no_scenario, is_refused}
+use Rattle.jc_serve.proofs.SubjectsLemmas.{no_memory, refused_new}
 use Rattle.jc_serve.proofs.subjects.subject_of.Goals as goal
 
-pub returns-in-Err : goal.returns-in-Err
-returns-in-Err c =
+pub returns-in_ok-fault_answer-in-Err : goal.returns-in_ok-fault_answer-in-Err
+returns-in_ok-fault_answer-in-Err c =
+    let text = c.args.text.now in
     let fault = c.in-Err.fault in
-    IfOk-weaker c.no_scenario.result _ _ (λ subject h.
-    subst (λ x. IsNewFor c.args.text.now x) (sym h.0) (no_scenario fault, is_refused (c.in-Err.ensures.fault h.1), refl)) c.no_scenario.ensures
+    let why = c.in_ok-fault_answer-in-Err.field-0 in
+    let says = c.in_ok-fault_answer-in-Err.ensures in
+    refused_new text fault why (c.in-Err.ensures.fault (no_memory text fault why.items says)) says

@@ -1,6 +1,4 @@
-use Rattle.std.proofs.Common.{◌≡◌, ℕ, List}
 use Rattle.std.proofs.lemmas.Result.{err_from_is_err_and}
-use Rattle.jc_rules.specs.declared.refusal.Refusal.{Refusal}
 use Rattle.jc_scenario.specs.Views.{scenario_view}
 use Rattle.jc_requests.specs.Views.{between_view}
 use Rattle.jc_listings.specs.Journals as J

@@ -1,8 +1,4 @@
-use Rattle.std.proofs.Common.{◌≡◌, refl, subst}
 use Rattle.std.proofs.lemmas.Result.{IfOk-weaker}
-use Rattle.std.proofs.Common.{List, ℕ, Some}
-use Rattle.jc_session.specs.Reply as Y
-use Rattle.jc_serve.specs.AnswerOf.{stopped_answer}
 use Rattle.jc_serve.proofs.PlacedLemmas.{stopped_so}
 use Rattle.jc_serve.proofs.texts.stopped.Goals as goal
 

@@ -16,7 +16,6 @@ invariant-lines g l = record {
   bytes : l.lines.bytes ≤ 67108864;
   count : l.lines.count ≤ 1000000;
   reads : g.S.Source.failures l.source ≡ g.S.Source.failures l.initial.source;
-  writes : g.K.Sink.failures l.out ≡ g.K.Sink.failures l.initial.out;
 }
 
 abbrev pub decreases-lines : goal.decreases-lines

@@ -5,6 +5,7 @@ use Rattle.jc_rules.specs.Context.{Register}
 use Rattle.jc_tree.specs.Numbered.{at_number}
 use Rattle.jc_tree.specs.Tables.{AreColumnsWithin, IsBare, flat_of}
 use Rattle.jc_tree.proofs.ArenaNodeLemmas.{trimmed_within, trimmed_seen}
+use Rattle.jc_tree.proofs.FitNodesLemmas.{keys_cut}
 use Rattle.jc_tree.proofs.arena_node.trim.Goals as goal
 
 pub loop-last-preserved : goal.loop-last-preserved
@@ -30,6 +31,7 @@ loop-last-preserved c =
         links = omega (arith, within.links, ap length c.cut-in-Some-4.ensures);
       },
       (λ j. flat_of u (c.cut.ensures j) (c.cut-in-Some.ensures j) (c.cut-in-Some-2.ensures j) (c.cut-in-Some-3.ensures j) (c.cut-in-Some-4.ensures j)) ∙ trimmed_seen k.keys u k.maps.items k.lists.items k.registers.items k.presences k.links.items n c.pop.ensures.numbered some c.pop.ensures.keys c.pop.ensures.order bare ∙ k.invariant.1,
+      keys_cut n k.keys.keys u.keys _ some (c.pop.ensures.keys ∙ ap (λ m. take m k.keys.keys) (omega (arith, some))) k.invariant.2,
     )
 
 pub returns-then-not-is_bare-clause-trimmed : goal.returns-then-not-is_bare-clause-trimmed

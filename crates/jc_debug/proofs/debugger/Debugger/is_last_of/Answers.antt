@@ -6,7 +6,7 @@ use Rattle.jc_debug.proofs.debugger.Debugger.is_last_of.Goals as goal
 
 pub returns : goal.returns
 returns c =
-    let here : c.len-here.result ≡ length c.self.inside.traces = search rules in
+    let here : c.len-here.result ≡ length c.self.inside.traces.items = search rules in
     let seen_2 = ap (λ (v : Seen). length v.traces) c.self.view_is in
     let within = c.self.invariant.within in
     let read = slice_get_read c.self.inside.schedule.items _ (c.len-here.result - 1) c.index.result.now refl (omega (arith, here, within, c.if-here-eq0.false)) c.index.ensures in

@@ -1,10 +1,16 @@
-use Rattle.std.proofs.Common.{Err, ap, ◌∙◌}
+use Rattle.std.proofs.Common.{Err, [], ◌∷◌, ◌++◌, ap, sym, ◌∙◌}
+use Rattle.jc_rules.specs.Step.{Network}
 use Rattle.jc_network.specs.NetworkHistory.{NetworkHistory}
 use Rattle.jc_listings.proofs.JournalPartsLemmas.{not_full, twin_can, twins_after, line_moved}
 use Rattle.jc_listings.proofs.journals.Networks.line.Goals as goal
 
 pub unreachable-requires : goal.unreachable-requires
 unreachable-requires c = not_full c.args.self.now.first c.requires.twins.first_new (c.step.ensures.full.0 (c.in-Err-Full.is ∙ ap Err c.in-Err-Full.field-0-is))
+
+pub made_line-requires-clause-last : goal.made_line-requires-clause-last
+made_line-requires-clause-last c =
+    let n = c.args.self.now in
+    record { before = n.first.history.earlier; earlier = c.in-Ok.ensures.made.earlier ∙ ap (λ (N : Network). n.first.history.earlier ++ N ∷ []) (sym c.requires.twins.same) }
 
 pub follow-requires-clause-can : goal.follow-requires-clause-can
 follow-requires-clause-can c =

@@ -6,6 +6,7 @@ use Rattle.jc_replica.specs.Operations.{identifiers, AreInOrder, IsHanded, AreHa
 use Rattle.jc_replica.specs.Received.{is_new, AreAmong, HasEach, AreKeptOf, IsContiguousTo, IsKeptList}
 use Rattle.jc_replica.specs.Undo.{without_ops}
 use Rattle.jc_replica.proofs.ReceivedUnionLemmas.{both-in_order, all_both, taken_out}
+use Rattle.jc_replica.proofs.ReceivedNewLemmas.{came_new}
 use Rattle.jc_replica.proofs.ReceivedLemmas.{rest_is, fresh_new, fresh_order, fresh_all, united_with, united_kept}
 use Rattle.jc_replica.proofs.received.Received.unite.Goals as goal
 
@@ -83,3 +84,17 @@ returns-clause-handed c =
     let is : fresh ≡ filter (is_new os) (drop start offered) = c.in_ok-fresh.ensures ∙ (λ n. filter (is_new (c.as_slice.ensures n)) (rest_is start offered n)) in
     let now : c.bring_in.new.ops.items ≡ both os fresh = c.bring_in.ensures ∙ ap (λ (x : List Op). both x fresh) (c.in_ok-reserve.ensures.items ∙ c.widen.ensures) in
     λ old new. subst AreHanded (sym now) (all_both IsHanded os fresh (subst AreHanded (sym c.self.view_is) old) (fresh_all os offered start fresh is IsHanded new))
+
+pub returns-clause-came : goal.returns-clause-came
+returns-clause-came c =
+    let os = c.self.inside.ops.items in
+    let offered = c.args.offered.now in
+    let start = c.up_to-start.result in
+    let fresh = c.in_ok-fresh.fresh.items in
+    let is : fresh ≡ filter (is_new os) (drop start offered) = c.in_ok-fresh.ensures ∙ (λ n. filter (is_new (c.as_slice.ensures n)) (rest_is start offered n)) in
+    let came : c.in_ok-came.came.items ≡ identifiers fresh = c.in_ok-came.ensures ∙ ap identifiers c.as_slice-2.ensures.value in
+    let now : c.bring_in.new.ops.items ≡ both os fresh = c.bring_in.ensures ∙ ap (λ (x : List Op). both x fresh) (c.in_ok-reserve.ensures.items ∙ c.widen.ensures) in
+    ap (λ (x : List Op). identifiers (filter (is_new x) c.bring_in.new.ops.items)) (sym c.self.view_is)
+    ∙ ap (λ (x : List Op). identifiers (filter (is_new os) x)) now
+    ∙ came_new os fresh c.self.invariant.order (fresh_order os offered start fresh is c.requires) (fresh_new os offered start fresh is)
+    ∙ sym came

@@ -3,13 +3,14 @@ use Rattle.jc_rules.specs.Trace.{pushed}
 use Rattle.jc_rules.specs.declared.operation.Event.TheVariants as E
 use Rattle.jc_rules.specs.declared.rule.Rule.TheVariants as R
 use Rattle.jc_rules.specs.Refused.{not_acted}
+use Rattle.jc_rules.specs.Syntax.{Yield}
 use Rattle.jc_syntax.specs.Trees.{cmd_of}
 use Rattle.jc_cursor.specs.Bounds.{vars_of}
 use Rattle.jc_replica.specs.declared.record.Record.{Record}
 use Rattle.jc_replica.specs.declared.record.Change.TheVariants as C
 use Rattle.jc_replica.specs.Undo.{Held, held_of}
 use Rattle.jc_replica.specs.ReplicaHistory.{ReplicaHistory, no_rows}
-use Rattle.jc_replica.proofs.ScriptLemmas.{one_more_fits}
+use Rattle.jc_replica.proofs.ScriptLemmas.{one_more_fits, has_ended}
 use Rattle.jc_replica.proofs.UndoStepsLemmas.{stepped}
 use Rattle.jc_replica.proofs.RefinesLemmas.{left_seen, acted_seen}
 use Rattle.jc_replica.proofs.AnswersLemmas.{ready_now, done_ready, ends, ended_back, occurs}
@@ -27,7 +28,7 @@ invariant_of-self-2 g c =
     let left = ap (λ (p : ReplicaHistory). p.history.now.left) c.self.view_is ∙ c.in_ok-at_yield.ensures.ok.1 in
     let acted : h.acted ≡ true = search rules in
     let one : c.push-2.new.self.items ≡ i.steps.items ++ r ∷ [] = search rules in
-    (stepped c.self.invariant t c.push-2.new.self.items r h2 (still t) one c.mark.ensures (ended_back h acted) tt (done_ready script h h2 t.now _ (ready_now c.self.invariant) left refl) (record { done = one_more_fits h.done script _ _ left; sent = c.self.invariant.bounds.sent })).kept
+    (stepped c.self.invariant t c.push-2.new.self.items r h2 (still t) one c.mark.ensures (ended_back h acted) (has_ended (λ x. x ≡ Yield) h.done script _ _ left refl) (done_ready script h h2 t.now _ (ready_now c.self.invariant) left refl) (record { done = one_more_fits h.done script _ _ left; sent = c.self.invariant.bounds.sent })).kept
 
 pub returns : goal.returns
 returns g c =
@@ -40,7 +41,7 @@ returns g c =
     let left = ap (λ (p : ReplicaHistory). p.history.now.left) c.self.view_is ∙ c.in_ok-at_yield.ensures.ok.1 in
     let acted : h.acted ≡ true = search rules in
     let one : c.push-2.new.self.items ≡ i.steps.items ++ r ∷ [] = search rules in
-    let s = stepped c.self.invariant t c.push-2.new.self.items r h2 (still t) one c.mark.ensures (ended_back h acted) tt (done_ready script h h2 t.now _ (ready_now c.self.invariant) left refl) (record { done = one_more_fits h.done script _ _ left; sent = c.self.invariant.bounds.sent }) in
+    let s = stepped c.self.invariant t c.push-2.new.self.items r h2 (still t) one c.mark.ensures (ended_back h acted) (has_ended (λ x. x ≡ Yield) h.done script _ _ left refl) (done_ready script h h2 t.now _ (ready_now c.self.invariant) left refl) (record { done = one_more_fits h.done script _ _ left; sent = c.self.invariant.bounds.sent }) in
     let rows : c.push.new.self ≡ pushed no_rows R.Done = search rules in
     occurs c.self.invariant i.number _ c.self.view_is E.Done [] t c.push-2.new.self.items h2 _ (ends _ script h h2 t.now _ _ left acted refl rows) s.earlier
 

@@ -23,7 +23,7 @@ invariant_of-self-2 g c =
     let len : c.len-self-inside.result ≡ length i.queue.items = search rules in
     let sent : h2 ≡ held_of h.done true h.vars h.ops h.queue (length h.queue) h.recv = ap (λ (n : ℕ). held_of h.done true h.vars h.ops h.queue n h.recv) len in
     let one : c.push-2.new.self.items ≡ i.steps.items ++ r ∷ [] = search rules in
-    (stepped c.self.invariant t c.push-2.new.self.items r h2 (still t) one c.mark.ensures refl c.self.invariant.bounds.sent (sent_ready (map cmd_of i.script.items) h h2 t.now (ready_now c.self.invariant) sent) (record { done = c.self.invariant.bounds.done; sent = omega (arith, len) })).kept
+    (stepped c.self.invariant t c.push-2.new.self.items r h2 (still t) one c.mark.ensures refl (omega (arith, c.self.invariant.bounds.sent, len)) (sent_ready (map cmd_of i.script.items) h h2 t.now (ready_now c.self.invariant) sent) (record { done = c.self.invariant.bounds.done; sent = omega (arith, len) })).kept
 
 pub returns : goal.returns
 returns g c =
@@ -38,6 +38,6 @@ returns g c =
     let len : c.len-self-inside.result ≡ length i.queue.items = search rules in
     let sent : h2 ≡ held_of h.done true h.vars h.ops h.queue (length h.queue) h.recv = ap (λ (n : ℕ). held_of h.done true h.vars h.ops h.queue n h.recv) len in
     let one : c.push-2.new.self.items ≡ i.steps.items ++ r ∷ [] = search rules in
-    let s = stepped c.self.invariant t c.push-2.new.self.items r h2 (still t) one c.mark.ensures refl c.self.invariant.bounds.sent (sent_ready script h h2 t.now ready sent) (record { done = c.self.invariant.bounds.done; sent = omega (arith, len) }) in
+    let s = stepped c.self.invariant t c.push-2.new.self.items r h2 (still t) one c.mark.ensures refl (omega (arith, c.self.invariant.bounds.sent, len)) (sent_ready script h h2 t.now ready sent) (record { done = c.self.invariant.bounds.done; sent = omega (arith, len) }) in
     let rows : c.push.new.self ≡ pushed no_rows R.Send = search rules in
     occurs c.self.invariant i.number _ c.self.view_is E.Send [] t c.push-2.new.self.items h2 _ (sends _ script h h2 t.now _ _ ready left sent rows) s.earlier

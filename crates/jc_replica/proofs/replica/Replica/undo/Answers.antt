@@ -25,12 +25,12 @@ withdraw-requires-clause-lower g c =
 pub withdraw-requires-in-Applied-clause-greatest : goal.withdraw-requires-in-Applied-clause-greatest
 withdraw-requires-in-Applied-clause-greatest g c =
     let is : c.in-Some.field-0.change ≡ C.Applied c.in-Applied.id c.in-Applied.before c.in-Applied.acted = search rules in
-    (can_back_as c.self.invariant c.pop.new.self.items c.in-Some.field-0 c.in-Some.ensures.items _ is).greatest
+    (can_back_as c.self.invariant c.pop.new.self.items c.in-Some.field-0 c.in-Some.ensures.items _ is).0.greatest
 
 pub withdraw-requires-in-Applied-clause-lower : goal.withdraw-requires-in-Applied-clause-lower
 withdraw-requires-in-Applied-clause-lower g c =
     let is : c.in-Some.field-0.change ≡ C.Applied c.in-Applied.id c.in-Applied.before c.in-Applied.acted = search rules in
-    (can_back_as c.self.invariant c.pop.new.self.items c.in-Some.field-0 c.in-Some.ensures.items _ is).lower
+    (can_back_as c.self.invariant c.pop.new.self.items c.in-Some.field-0 c.in-Some.ensures.items _ is).0.lower
 
 pub invariant_of-self-in-Bound : goal.invariant_of-self-in-Bound
 invariant_of-self-in-Bound g c =

@@ -1,4 +1,4 @@
-use Rattle.std.proofs.Common.{◌≡◌, length, ap}
+use Rattle.std.proofs.Common.{length, ap}
 use Rattle.std.proofs.lemmas.Result.{IfOk-weaker}
 use Rattle.jc_serve.proofs.DispatchLemmas.{end_lead}
 use Rattle.jc_serve.proofs.served.Served.goto_end.Goals as goal

@@ -1,4 +1,4 @@
-use Rattle.std.proofs.Common.{◌≡◌, ◌+◌, ◌-◌, length, Err, refl, ap, subst, ◌∙◌, arith}
+use Rattle.std.proofs.Common.{◌≡◌, ◌+◌, length, Err, refl, ap, subst, ◌∙◌, arith}
 use Rattle.std.proofs.lemmas.Result.{IfOk-weaker}
 use Rattle.jc_rules.specs.declared.refusal.Refusal.TheVariants as F
 use Rattle.jc_debug.specs.declared.fault.DebugFault.TheVariants as D
@@ -11,7 +11,7 @@ use Rattle.jc_serve.proofs.AnswersLemmas.{tells_stopped}
 use Rattle.jc_serve.proofs.LooksLemmas.{ended, ended_answer}
 use Rattle.jc_serve.proofs.SessionsLemmas.{here_moved}
 use Rattle.jc_serve.proofs.EventsLemmas.{line_so, here_state}
-use Rattle.jc_serve.proofs.MoveFaultsLemmas.{refused_for}
+use Rattle.jc_serve.proofs.MoveFaultsLemmas.{refused_for, paired_moved}
 use Rattle.jc_serve.proofs.served.Served.line_at.Goals as goal
 
 pub unreachable-requires : goal.unreachable-requires
@@ -20,6 +20,14 @@ unreachable-requires c =
     let told = refused_for F.PastSchedule w.field-0-0 c.args.self.now.here c.goto.new.self c.args.n w.field-0 w.field-0-is w.ensures.err in
     let past = c.goto.ensures.past.0 (w.is ∙ ap Err told) in
     omega (arith, past, c.requires.there)
+
+pub bring_aside-requires-clause-paired : goal.bring_aside-requires-clause-paired
+bring_aside-requires-clause-paired c = paired_moved c.args.self.now c.goto.new.self c.args.n c.requires.held c.in-Ok.ensures.ok
+
+pub bring_aside-requires-clause-before : goal.bring_aside-requires-clause-before
+bring_aside-requires-clause-before c =
+    let n = c.in-Ok.ensures.ok.position in
+    omega (arith, n, c.requires.behind)
 
 pub returns-in_ok-bring_aside-in-Ok : goal.returns-in_ok-bring_aside-in-Ok
 returns-in_ok-bring_aside-in-Ok c =

@@ -1,4 +1,4 @@
-use Rattle.std.proofs.Common.{◌+◌, length, None, refl, sym, subst, ap}
+use Rattle.std.proofs.Common.{◌+◌, length, None, refl, sym, subst}
 use Rattle.jc_requests.specs.Views.{at_view}
 use Rattle.jc_serve.specs.Asking.{LooksAt}
 use Rattle.jc_serve.proofs.AnswersLemmas.{looks_shown}

@@ -1,9 +1,8 @@
-use Rattle.std.proofs.Common.{◌≡◌, length, Some, Ok, ap, subst, arith}
+use Rattle.std.proofs.Common.{length, Some, ap, subst, arith}
 use Rattle.std.proofs.lemmas.Result.{err_from_is_err_and}
 use Rattle.jc_scenario.specs.Views.{scenario_view}
 use Rattle.jc_requests.specs.Views.{position_view}
 use Rattle.jc_looks.specs.LookFaults.{RefusesBy}
-use Rattle.jc_listings.specs.Positions.{count_of}
 use Rattle.jc_serve.specs.AnswerOf.{IsNowhereAnswer}
 use Rattle.jc_serve.proofs.AnswersLemmas.{looks_nowhere, looks_shown, count_in, count_within}
 use Rattle.jc_serve.proofs.FindsLemmas.{answers_weaker}

@@ -1,12 +1,22 @@
-use Rattle.std.proofs.Common.{◌≡◌, ◌<◌, List, Option, true, false, length, MatchOption, Some, sym, subst, ◌∙◌, arith}
-use Rattle.std.specs.declared.alloc.Global.{Global}
-use Rattle.std.specs.declared.vec.Vec.{Vec}
-use Rattle.jc_rules.specs.declared.operation.Event.{Event}
+use Rattle.std.proofs.Common.{◌≡◌, true, false, MatchOption, sym, subst, ◌∙◌, arith}
 use Rattle.jc_session.specs.Requests as Q
 use Rattle.jc_session.specs.Views.{request_view}
 use Rattle.jc_replies.specs.AnswerOf.{GivesServed}
-use Rattle.jc_serve.proofs.SessionsLemmas.{with_event, without_event}
+use Rattle.jc_serve.proofs.SessionsLemmas.{with_event, without_event, shares}
 use Rattle.jc_serve.proofs.served.Served.of_session.Goals as goal
+
+pub follow-requires : goal.follow-requires
+follow-requires c =
+    let x = c.args.self.now in
+    let q = request_view c.args.request in
+    let d = c.answer_to.new.debugger in
+    let given : GivesServed c.as_slice-given.result.now x.here q d c.in-Some.answer.items =
+    subst (λ o. MatchOption o (q ≡ Q.quit) (λ t. GivesServed c.as_slice-given.result.now x.here q d t.items)) c.in-Some.is c.in_ok-answer.ensures in
+    let g = subst (λ es. GivesServed es x.here q d c.in-Some.answer.items) c.as_slice-given.ensures.value given in
+    let made = c.has_made.ensures.0 c.if-has_made.true in
+    let at = c.position-now.ensures.position in
+    let lt = made.1 in
+    shares x q d c.in-Some.answer.items c.position-was.ensures.trail c.position-now.ensures.trail c.requires.other g c.position-was.result c.position-was.ensures.position made.0 (omega (arith, lt, at)) c.requires.held
 
 pub returns-then-has_made : goal.returns-then-has_made
 returns-then-has_made c text =

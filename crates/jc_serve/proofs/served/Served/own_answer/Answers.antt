@@ -1,8 +1,7 @@
-use Rattle.std.proofs.Common.{◌≤◌, List, ℕ, sym, subst}
-use Rattle.jc_network.specs.Given.{IsStart}
+use Rattle.std.proofs.Common.{sym, subst}
 use Rattle.jc_looks.specs.LookFaults.{AnswersBy}
 use Rattle.jc_requests.specs.Views.{asked_view}
-use Rattle.jc_serve.specs.AnswerOf.{LeadsTo, IsWithinLimit}
+use Rattle.jc_serve.specs.AnswerOf.{LeadsTo}
 use Rattle.jc_serve.proofs.FindsLemmas.{answers_weaker}
 use Rattle.jc_serve.proofs.DispatchLemmas.{places_lead, print_lead, breaks_lead, weave_lead}
 use Rattle.jc_serve.proofs.served.Served.own_answer.Goals as goal

@@ -1,5 +1,5 @@
 use Rattle.std.proofs.Common.{◌+◌, codes, ap, ◌∙◌}
-use Rattle.std.proofs.Common.{decimal, ◌≡◌}
+use Rattle.std.proofs.Common.{decimal}
 use Rattle.std.proofs.lemmas.Result.{IfOk-weaker}
 use Rattle.jc_answers.specs.JsonTexts.{object_text}
 use Rattle.jc_serve.specs.InMemory.{mark_of}

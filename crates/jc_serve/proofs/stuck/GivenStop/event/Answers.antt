@@ -1,9 +1,8 @@
-use Rattle.std.proofs.Common.{◌≡◌, ◌<◌, ◌-◌, ℕ, zero, suc, Ok, Some, sym, ap, subst, ◌∙◌, arith}
+use Rattle.std.proofs.Common.{◌≡◌, ◌<◌, ◌-◌, suc, Ok, Some, sym, ap, subst, ◌∙◌, arith}
 use Rattle.std.proofs.lemmas.Result.{IfOk-weaker}
 use Rattle.jc_scenario.specs.Views.{scenario_view}
 use Rattle.jc_listings.specs.Journals.{AnswersEvent, IsLineBehind, first}
 use Rattle.jc_listings.specs.Positions.{IsAt}
-use Rattle.jc_rules.specs.Step.{Network}
 use Rattle.jc_serve.proofs.StopLemmas.{made_there, event_told}
 use Rattle.jc_serve.proofs.stuck.GivenStop.event.Goals as goal
 

@@ -1,5 +1,4 @@
-use Rattle.jc_serve.proofs.StopLemmas.{given_led, few_given, well_formed, at_network, shown_at}
-use Rattle.jc_serve.proofs.SessionsLemmas.{each_at}
+use Rattle.jc_serve.proofs.StopLemmas.{given_led}
 use Rattle.jc_serve.proofs.stuck.GivenStop.look.Goals as goal
 
 pub given_network-requires-clause-leads : goal.given_network-requires-clause-leads

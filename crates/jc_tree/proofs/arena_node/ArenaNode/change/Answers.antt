@@ -7,13 +7,14 @@ use Rattle.jc_tree.specs.Arena.{Flat, changed_flat}
 use Rattle.jc_tree.specs.Tree.{or_no_entries}
 use Rattle.jc_tree.proofs.SortedMapLemmas.{on_err}
 use Rattle.jc_tree.proofs.TablesLemmas.{on_ok}
-use Rattle.jc_tree.proofs.ArenaNodeLemmas.{within_registers, count_stays, seen_registers}
+use Rattle.jc_tree.proofs.ArenaNodeLemmas.{within_registers, count_stays, fit_stays, seen_registers}
 use Rattle.jc_tree.proofs.arena_node.ArenaNode.change.Goals as goal
 
 pub invariant_of-self : goal.invariant_of-self
 invariant_of-self c = record {
   within = within_registers c.in-PutValue.key c.self.inside.keys c.put_value_in.new.keys c.self.inside.maps.items c.self.inside.lists.items c.self.inside.registers.items c.self.inside.presences c.self.inside.links.items c.self.invariant.within c.put_value_in.ensures.numbers c.put_value_in.new.registers.items c.put_value_in.ensures.within;
   count = count_stays c.in-PutValue.key c.self.inside.keys c.put_value_in.new.keys c.self.inside.maps.items c.self.inside.lists.items c.self.inside.registers.items c.self.inside.presences c.self.inside.links.items c.self.invariant.within c.put_value_in.ensures.numbers c.self.inside.present c.self.invariant.count;
+  fit = fit_stays c.in-PutValue.key c.self.inside.keys c.put_value_in.new.keys c.self.inside.presences c.self.inside.links.items c.self.inside.blocks c.self.invariant.within c.put_value_in.ensures.numbers c.self.invariant.fit;
 }
 
 pub returns-in-PutValue-clause-ok : goal.returns-in-PutValue-clause-ok

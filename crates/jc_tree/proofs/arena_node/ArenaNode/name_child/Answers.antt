@@ -3,7 +3,7 @@ use Rattle.jc_rules.specs.Order.{key_cmp}
 use Rattle.jc_rules.specs.Entries.{put}
 use Rattle.jc_tree.specs.Arena.{Flat, with_child_number}
 use Rattle.jc_tree.proofs.SortedMapLemmas.{as_err}
-use Rattle.jc_tree.proofs.ArenaNodeLemmas.{within_maps, within_lists, count_stays, seen_maps, seen_lists}
+use Rattle.jc_tree.proofs.ArenaNodeLemmas.{within_maps, within_lists, count_stays, fit_stays, seen_maps, seen_lists}
 use Rattle.jc_tree.proofs.arena_node.ArenaNode.name_child.Goals as goal
 use Rattle.jc_tree.proofs.arena_node.ArenaNode.name_child.Goals.{in-Name-3, in-Doc-3, in-Name-4, in-Doc-4}
 
@@ -11,6 +11,7 @@ pub invariant_of-self : goal.invariant_of-self
 invariant_of-self c = record {
   within = within_maps c.in-MapT.key c.self.inside.keys c.put_in.new.keys c.self.inside.maps.items c.self.inside.lists.items c.self.inside.registers.items c.self.inside.presences c.self.inside.links.items c.self.invariant.within c.put_in.ensures.numbers c.put_in.new.column.items c.put_in.ensures.within;
   count = count_stays c.in-MapT.key c.self.inside.keys c.put_in.new.keys c.self.inside.maps.items c.self.inside.lists.items c.self.inside.registers.items c.self.inside.presences c.self.inside.links.items c.self.invariant.within c.put_in.ensures.numbers c.self.inside.present c.self.invariant.count;
+  fit = fit_stays c.in-MapT.key c.self.inside.keys c.put_in.new.keys c.self.inside.presences c.self.inside.links.items c.self.inside.blocks c.self.invariant.within c.put_in.ensures.numbers c.self.invariant.fit;
 }
 
 pub returns-in_err-put_in-in-MapT-clause-err : goal.returns-in_err-put_in-in-MapT-clause-err
@@ -20,18 +21,21 @@ pub invariant_of-self-in_ok-put_in-in-MapT : goal.invariant_of-self-in_ok-put_in
 invariant_of-self-in_ok-put_in-in-MapT c = record {
   within = within_maps c.in-MapT.key c.self.inside.keys c.put_in.new.keys c.self.inside.maps.items c.self.inside.lists.items c.self.inside.registers.items c.self.inside.presences c.self.inside.links.items c.self.invariant.within c.put_in.ensures.numbers c.put_in.new.column.items c.put_in.ensures.within;
   count = count_stays c.in-MapT.key c.self.inside.keys c.put_in.new.keys c.self.inside.maps.items c.self.inside.lists.items c.self.inside.registers.items c.self.inside.presences c.self.inside.links.items c.self.invariant.within c.put_in.ensures.numbers c.self.inside.present c.self.invariant.count;
+  fit = fit_stays c.in-MapT.key c.self.inside.keys c.put_in.new.keys c.self.inside.presences c.self.inside.links.items c.self.inside.blocks c.self.invariant.within c.put_in.ensures.numbers c.self.invariant.fit;
 }
 
 pub invariant_of-self-in_ok-put_in-in-MapT-2 : goal.invariant_of-self-in_ok-put_in-in-MapT-2
 invariant_of-self-in_ok-put_in-in-MapT-2 c = record {
   within = within_maps c.in-MapT.key c.self.inside.keys c.put_in.new.keys c.self.inside.maps.items c.self.inside.lists.items c.self.inside.registers.items c.self.inside.presences c.self.inside.links.items c.self.invariant.within c.put_in.ensures.numbers c.put_in.new.column.items c.put_in.ensures.within;
   count = count_stays c.in-MapT.key c.self.inside.keys c.put_in.new.keys c.self.inside.maps.items c.self.inside.lists.items c.self.inside.registers.items c.self.inside.presences c.self.inside.links.items c.self.invariant.within c.put_in.ensures.numbers c.self.inside.present c.self.invariant.count;
+  fit = fit_stays c.in-MapT.key c.self.inside.keys c.put_in.new.keys c.self.inside.presences c.self.inside.links.items c.self.inside.blocks c.self.invariant.within c.put_in.ensures.numbers c.self.invariant.fit;
 }
 
 pub invariant_of-self-in_err-put_in-in-ListT : goal.invariant_of-self-in_err-put_in-in-ListT
 invariant_of-self-in_err-put_in-in-ListT c = record {
   within = within_lists c.in-ListT.key c.self.inside.keys c.put_in-in-ListT.new.keys c.self.inside.maps.items c.self.inside.lists.items c.self.inside.registers.items c.self.inside.presences c.self.inside.links.items c.self.invariant.within c.put_in-in-ListT.ensures.numbers c.put_in-in-ListT.new.column.items c.put_in-in-ListT.ensures.within;
   count = count_stays c.in-ListT.key c.self.inside.keys c.put_in-in-ListT.new.keys c.self.inside.maps.items c.self.inside.lists.items c.self.inside.registers.items c.self.inside.presences c.self.inside.links.items c.self.invariant.within c.put_in-in-ListT.ensures.numbers c.self.inside.present c.self.invariant.count;
+  fit = fit_stays c.in-ListT.key c.self.inside.keys c.put_in-in-ListT.new.keys c.self.inside.presences c.self.inside.links.items c.self.inside.blocks c.self.invariant.within c.put_in-in-ListT.ensures.numbers c.self.invariant.fit;
 }
 
 pub returns-in_err-put_in-in-ListT-clause-err : goal.returns-in_err-put_in-in-ListT-clause-err
@@ -41,12 +45,14 @@ pub invariant_of-self-in_ok-put_in-in-ListT : goal.invariant_of-self-in_ok-put_i
 invariant_of-self-in_ok-put_in-in-ListT c = record {
   within = within_lists c.in-ListT.key c.self.inside.keys c.put_in-in-ListT.new.keys c.self.inside.maps.items c.self.inside.lists.items c.self.inside.registers.items c.self.inside.presences c.self.inside.links.items c.self.invariant.within c.put_in-in-ListT.ensures.numbers c.put_in-in-ListT.new.column.items c.put_in-in-ListT.ensures.within;
   count = count_stays c.in-ListT.key c.self.inside.keys c.put_in-in-ListT.new.keys c.self.inside.maps.items c.self.inside.lists.items c.self.inside.registers.items c.self.inside.presences c.self.inside.links.items c.self.invariant.within c.put_in-in-ListT.ensures.numbers c.self.inside.present c.self.invariant.count;
+  fit = fit_stays c.in-ListT.key c.self.inside.keys c.put_in-in-ListT.new.keys c.self.inside.presences c.self.inside.links.items c.self.inside.blocks c.self.invariant.within c.put_in-in-ListT.ensures.numbers c.self.invariant.fit;
 }
 
 pub invariant_of-self-in_ok-put_in-in-ListT-2 : goal.invariant_of-self-in_ok-put_in-in-ListT-2
 invariant_of-self-in_ok-put_in-in-ListT-2 c = record {
   within = within_lists c.in-ListT.key c.self.inside.keys c.put_in-in-ListT.new.keys c.self.inside.maps.items c.self.inside.lists.items c.self.inside.registers.items c.self.inside.presences c.self.inside.links.items c.self.invariant.within c.put_in-in-ListT.ensures.numbers c.put_in-in-ListT.new.column.items c.put_in-in-ListT.ensures.within;
   count = count_stays c.in-ListT.key c.self.inside.keys c.put_in-in-ListT.new.keys c.self.inside.maps.items c.self.inside.lists.items c.self.inside.registers.items c.self.inside.presences c.self.inside.links.items c.self.invariant.within c.put_in-in-ListT.ensures.numbers c.self.inside.present c.self.invariant.count;
+  fit = fit_stays c.in-ListT.key c.self.inside.keys c.put_in-in-ListT.new.keys c.self.inside.presences c.self.inside.links.items c.self.inside.blocks c.self.invariant.within c.put_in-in-ListT.ensures.numbers c.self.invariant.fit;
 }
 
 pub returns-in_ok-put_in-in-MapT-clause-ok : goal.returns-in_ok-put_in-in-MapT-clause-ok

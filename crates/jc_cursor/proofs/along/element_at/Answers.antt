@@ -1,0 +1,24 @@
+use Rattle.std.proofs.Common.{refl}
+use Rattle.std.proofs.lemmas.Result.{err_from_is_err_and}
+use Rattle.jc_tree.specs.Tree.{here}
+use Rattle.jc_tree.proofs.ChainedBelowLemmas.{list_here}
+use Rattle.jc_cursor.proofs.ElementsLemmas.{along_begins, along_goes_on, nearer_on, past_refused, along_ends}
+use Rattle.jc_cursor.proofs.along.element_at.Goals as goal
+
+pub loop-walk-init : goal.loop-walk-init
+loop-walk-init g c = along_begins _ _ _ _ _ refl refl
+
+pub returns-in_err-walk-clause-refused : goal.returns-in_err-walk-clause-refused
+returns-in_err-walk-clause-refused g c =
+    let p = err_from_is_err_and c.from_residual.result c.from_residual.ensures.1 in
+    rw (p.1, p.2) (past_refused _ _ _ _ _ _ _ c.loop-walk-test.true c.loop-walk.invariant c.in_err-walk.ensures.refused)
+
+pub loop-walk-smaller : goal.loop-walk-smaller
+loop-walk-smaller g c =
+    nearer_on (here c.args.at.now (g.S.TreeStore.tree c.args.store.now)) _ _ _ _ _ _ (λ x e. list_here c.args.at.now _ _ (g.S.TreeStore.tree c.args.store.now) c.requires.there e c.requires.chained) c.in_ok-walk.ensures.ok
+
+pub loop-walk-preserved : goal.loop-walk-preserved
+loop-walk-preserved g c = along_goes_on _ _ _ _ _ _ _ _ _ c.in_ok-walk.ensures.ok c.loop-walk.invariant
+
+pub returns-clause-ok : goal.returns-clause-ok
+returns-clause-ok g c = along_ends _ _ _ _ _ _ _ c.loop-walk-test.false c.loop-walk.invariant c.in_ok-push.ensures.ok

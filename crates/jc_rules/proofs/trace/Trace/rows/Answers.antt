@@ -1,6 +1,0 @@
-use Rattle.std.proofs.Common.{rules}
-use Rattle.jc_rules.proofs.trace.Trace.rows.Goals as goal
-
--- all rows
-pub returns : goal.returns
-returns c = search rules
