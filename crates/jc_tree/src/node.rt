@@ -15,7 +15,7 @@ ghost use Rattle.jc_tree.specs.Undo.{was_there, former_of, former_of_id, restore
 use crate::entries::{key_above, place_of, put_value, restore_value, value_of};
 use crate::ids::{Ids, add_to, count_present, take_from};
 use crate::lists::{Pairs, put_to, restore_from};
-use crate::store::Hint;
+use crate::store::{ANYWHERE, Hint};
 use jc_rules::{Id, Key, Next, Tagged, Value, compare_keys};
 use std::alloc::{AllocError, Global};
 use std::marker::Model;
@@ -235,7 +235,7 @@ impl Node {
         let mut lent = Vec::new(alloc);
         let mut last = None;
         while let Some(key) = self.any_after(last) {
-            lent.push((key, Hint { number: 0 }))?;
+            lent.push((key, ANYWHERE))?;
             last = Some(key);
         }
         Ok(lent)
