@@ -18,6 +18,7 @@ mod faults;
 mod keys;
 #[cfg(test)]
 mod large;
+#[cfg(test)]
 mod last_steps;
 #[cfg(test)]
 mod long;
