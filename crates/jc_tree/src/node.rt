@@ -114,17 +114,6 @@ impl Node {
         Ok(node)
     }
 
-    /// Whether the tagged key is there.
-    pub fn has(&self, key: &Tagged) -> bool
-        ensures { result ≡ is_some (content key.now self.now) }
-    {
-        match key {
-            Tagged::MapT(key) => value_of(self.maps.as_slice(), key).is_some(),
-            Tagged::ListT(key) => value_of(self.lists.as_slice(), key).is_some(),
-            Tagged::RegT(key) => value_of(self.registers.as_slice(), key).is_some(),
-        }
-    }
-
     /// Whether a map is under the key.
     pub fn has_map(&self, key: &Key) -> bool
         ensures { result ≡ is_some (content (Tagged.MapT key.now) self.now) }

@@ -19,7 +19,7 @@ ghost use Rattle.jc_json.specs.Gains.{Gains};
 ghost use Rattle.jc_view.specs.Parts.{parts_shown_at, child_json, shows_at, form_of, member_shown, item_of, part_tokens, values_tokens, first_tokens, is_list, if_so};
 
 use crate::alive::is_alive;
-use crate::values::{write_pairs, write_value};
+use jc_json::{Numbers, write_pairs, write_value};
 use jc_replica::Replica;
 use jc_rules::{Id, Key, Next, Tagged, Text, Value};
 use jc_tree::{ANYWHERE, KeysOf, Place, TreeStore};
@@ -155,7 +155,7 @@ fn write_first(values: &[(Id, Value)], out: &mut Writer) -> Result<(), AllocErro
     ensures { OnOk result (Gains out.old out.new (first_tokens values.now)) }
 {
     match values.first() {
-        Some((_, value)) => write_value(value, out),
+        Some((_, value)) => write_value(value, Numbers::Plain, out),
         None => Ok(()),
     }
 }
@@ -173,7 +173,7 @@ fn write_values(
         return Ok(());
     }
     out.key("values")?;
-    write_pairs(alloc, names, values, out)
+    write_pairs(alloc, names, values, Numbers::Plain, out)
 }
 
 /// Writes the map or the list under a tagged key. At the end `at` is as it was, unless memory ran out.
