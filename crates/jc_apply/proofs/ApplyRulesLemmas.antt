@@ -13,14 +13,16 @@ use Rattle.jc_rules.specs.declared.value.Value.{Value}
 use Rattle.jc_rules.specs.Order.{key_cmp, id_cmp}
 use Rattle.jc_rules.specs.Entries.{find, put}
 use Rattle.jc_rules.specs.Ids.{with_id}
-use Rattle.jc_rules.specs.Context.{Context, Content, Node, Values, Register, IsPrimitive, registers, values_of, content, with_content, new_content, presence, with_presence, key_of_tagged, empty, empty_list}
+use Rattle.jc_rules.specs.Context.{Context, context, Content, Node, Values, Register, IsPrimitive, registers, values_of, content, with_content, new_content, presence, with_presence, key_of_tagged, empty, empty_list}
 use Rattle.jc_rules.specs.ContextsAt.{with_node_at, node_in}
 use Rattle.jc_rules.specs.Derivation.{Question, Presence, AddId, Child, Clear, ClearElem, Operate, ToIds, ToContent, ToContext, Cleared}
 use Rattle.jc_rules.specs.Derives.{Derives}
 use Rattle.jc_rules.specs.Trace.{Rows, pushed, one_deeper, at_depth}
 use Rattle.jc_rules.specs.Table.{Follows, moved}
 use Rattle.jc_rules.specs.Paths.{HasContext}
-use Rattle.jc_rules.proofs.ContextsAtLemmas.{there, with_node-same, with-same}
+use Rattle.jc_rules.proofs.ContextsAtLemmas.{there, with_node-same, with-same, listed_children}
+use Rattle.jc_rules.proofs.EntriesLemmas.{found-put}
+use Rattle.jc_rules.proofs.OrderLemmas.{keys_total, exact_keys}
 use Rattle.jc_rules.proofs.DerivesLemmas.{by_axiom, one_premise, three_premises}
 use Rattle.jc_tree.specs.Tree.{Tree, HasPlace, here, or_no_entries, IsChanged}
 use Rattle.jc_tree.specs.CanGoBack.{TreeCanGoBack}
@@ -190,3 +192,9 @@ after_clear q at a b ids t u p x = then_place at x.after a b p x.now
 
 pub after_lead : (q : Context → Question) (at : List Tagged) (a b : Tree) (t u : Rows) → HasPlace at a → LeadsTo q at a b t u → HasPlace at b
 after_lead q at a b t u p x = then_place at x.after a b p x.now
+
+-- what is made under a map's or a list's tagged key is a context
+pub child_there : (t : Tagged) (c : Context) → HasContext t → is_some (node_in (content t (with_content t (new_content t) c))) ≡ true
+child_there (MapT k) (context m l r p n) h = rw (listed_children, found-put keys_total exact_keys) refl
+child_there (ListT k) (context m l r p n) h = rw (listed_children, found-put keys_total exact_keys) refl
+child_there (RegT k) c h = absurd h

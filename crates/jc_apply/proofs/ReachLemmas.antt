@@ -172,6 +172,13 @@ named_there P N path n t o now within is e h =
     let further_on = subst (λ (ps : List Tagged). IfSome o (λ p. N p ps)) (sym (further path n t within is)) h in
     subst (λ (x : Option P). IfSome x (λ p. N p (take (n + 1) path))) (sym e) further_on
 
+-- the name that is there, and that of the whole path
+pub named_so : (P : Type 0) (N : P → Type 0) (o : Option P) (p : P) → o ≡ Some p → IfSome o N → N p
+named_so P N o p e h = subst (λ (x : Option P). IfSome x N) e h
+
+pub named_whole : (P : Type 0) (N : P → List Tagged → Type 0) (path : List Tagged) (n : ℕ) (o : Option P) (p : P) → length path ≤ n → o ≡ Some p → IfSome o (λ q. N q (take n path)) → N p path
+named_whole P N path n o p all e h = subst (λ (ps : List Tagged). N p ps) (take_all n path all) (named_so P (λ q. N q (take n path)) o p e h)
+
 pub named_none : (P : Type 0) (N : P → Type 0) (now : Option P) → now ≡ None → IfSome now N
 named_none P N now e = subst (λ (x : Option P). IfSome x N) (sym e) tt
 

@@ -113,7 +113,7 @@ fn add_op<S: TreeStore>(
     match &op.mutation {
         Mutation::Delete => Ok(None),
         _ => {
-            let was = store.add_presence_at(place, at, key.key(), op.id)?;
+            let was = store.add_presence_at(place, key.key(), op.id)?;
             Ok(Some(was))
         }
     }

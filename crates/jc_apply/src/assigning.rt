@@ -80,7 +80,7 @@ fn add_id<S: TreeStore>(
     ensures names_stay { NamesStay (S.names store.old) (S.names store.new) }
     ensures kept { TreeCanGoBack (S.tree store.old) (S.tree store.new) trace.old trace.new }
 {
-    let was = store.add_presence_at(place, at, key, id)?;
+    let was = store.add_presence_at(place, key, id)?;
     trace_added(Some(was), trace)
 }
 
@@ -111,7 +111,7 @@ fn assign_primitive<S: TreeStore>(
     let register = Tagged::RegT(last.copy()?);
     clear_at(alloc, store, &op.deps, place, at, &register, trace)?;
     add_id(store, place, at, last, op.id, trace)?;
-    let was = store.put_value_at(place, at, last, op.id, value.copy()?)?;
+    let was = store.put_value_at(place, last, op.id, value.copy()?)?;
     trace.push(register_rule(was))?;
     trace.close(depth);
     Ok(())

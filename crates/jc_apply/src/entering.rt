@@ -43,10 +43,14 @@ pub fn enter_below<S: TreeStore>(
     ensures links { OnOk result (LinksNone at.now (S.tree store.old) (S.tree store.new)) }
     ensures kept { TreeCanGoBack (S.tree store.old) (S.tree store.new) trace.old trace.new }
 {
-    if let Some(child) = store.below(place, at, key) {
+    if let Some(child) = store.below(place, key) {
         trace.push(Rule::ChildGet)?;
         return Ok(child);
     }
     trace.push(child_rule(key))?;
-    store.make_below(place, at, key)
+    store.make_child_at(place, key)?;
+    match store.below(place, key) {
+        Some(child) => Ok(child),
+        None => unreachable!(),
+    }
 }

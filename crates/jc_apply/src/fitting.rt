@@ -9,7 +9,7 @@ ghost use Rattle.jc_rules.specs.WellFormed.{IsChained};
 ghost use Rattle.jc_apply.specs.Fits.{Fits, EachOp, made_under};
 
 use jc_rules::{Cursor, Key, Mutation, Tagged};
-use jc_tree::{Hint, TreeStore};
+use jc_tree::{ANYWHERE, TreeStore};
 
 /// Whether something follows the key in a new context under the tagged key: only the head of a new
 /// list is linked.
@@ -40,12 +40,12 @@ pub fn fits<S: TreeStore>(store: &S, cursor: &Cursor, mutation: &Mutation) -> bo
     let mut place = Some(store.root());
     for (depth, key) in path.iter().enumerate() {
         if let Some(parent) = place {
-            place = store.below(parent, &path[..depth], key);
+            place = store.below(parent, key);
         }
     }
     match place {
         Some(place) => {
-            let step = store.step_by(place, path, &cursor.last, Hint { number: 0 });
+            let step = store.step_by(place, &cursor.last, ANYWHERE);
             step.next.is_some()
         }
         None => is_new_head(path.last(), &cursor.last),

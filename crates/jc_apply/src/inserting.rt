@@ -45,8 +45,8 @@ pub fn insert<S: TreeStore>(
     trace.open(Rule::Insert1)?;
     let element = Key::Elem(op.id);
     assign(alloc, store, place, at, op, &element, value, trace)?;
-    store.set_next_at(place, at, &key, Next::Elem(op.id))?;
-    store.set_next_at(place, at, &element, next)?;
+    store.set_next_at(place, &key, Next::Elem(op.id))?;
+    store.set_next_at(place, &element, next)?;
     trace.close(depth);
     Ok(())
 }

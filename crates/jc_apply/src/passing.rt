@@ -18,7 +18,7 @@ ghost use Rattle.jc_apply.specs.AppliesAlong.{Passes};
 ghost use Rattle.jc_apply.specs.Passing.{LeadsOverGreater, PassesOn};
 
 use jc_rules::{Id, Key, Next, Op, Rule, Tagged, Trace, compare_ids};
-use jc_tree::{Hint, Place, Stretch, TreeStore};
+use jc_tree::{ANYWHERE, Hint, Place, Stretch, TreeStore};
 use std::alloc::AllocError;
 
 /// The most elements that are passed at once: as many as a store tells of in a word.
@@ -42,7 +42,7 @@ fn search_at<S: TreeStore>(store: &S, place: Place, at: &[Tagged], key: Key, hin
     ensures key { result.key ≡ key }
     ensures next { next_of result.key (here at.now (S.tree store.now)) ≡ Some result.next }
 {
-    let step = store.step_by(place, at, &key, hint);
+    let step = store.step_by(place, &key, hint);
     let Some(next) = step.next else {
         unreachable!();
     };
@@ -88,7 +88,7 @@ fn stretch_above<S: TreeStore>(
     ensures leads { IfSome result (λ s.
         LeadsOverGreater (here at.now (S.tree store.now)) id search.now.key s.count (Elem s.last)) }
 {
-    let stretch = store.stretch_by(place, at, &search.key, search.hint, MOST)?;
+    let stretch = store.stretch_by(place, &search.key, search.hint, MOST)?;
     if is_below(id, stretch.least) {
         return Some(stretch);
     }
@@ -149,7 +149,7 @@ pub fn pass<S: TreeStore>(
     ensures kept { IsLonger trace.old trace.new }
 {
     let key = op.cursor.last.copy()?;
-    let mut search = search_at(store, place, at, key, Hint { number: 0 });
+    let mut search = search_at(store, place, at, key, ANYWHERE);
     while let Some((key, hint)) = pass_on(store, place, at, &search, op.id, trace)? {
         search = search_at(store, place, at, key, hint);
     }

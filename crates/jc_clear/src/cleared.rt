@@ -36,10 +36,10 @@ pub(crate) fn is_cleared<S: TreeStore>(
     requires named { S.names store.now place at.now }
     ensures { IsTrue result → IsCleared key.now (here at.now (S.tree store.now)) }
 {
-    is_empty(store.presence_by(place, at, key, hint))
-        && is_empty(store.register_by(place, at, key, hint))
-        && store.map_by(place, at, key, hint).is_none()
-        && store.list_by(place, at, key, hint).is_none()
+    is_empty(store.presence_by(place, key, hint))
+        && is_empty(store.register_by(place, key, hint))
+        && store.map_by(place, key, hint).is_none()
+        && store.list_by(place, key, hint).is_none()
 }
 
 /// Adds the rules by which such a key is cleared.

@@ -23,11 +23,8 @@ use crate::cleared::{is_cleared, push_cleared};
 use crate::registers::{clear_register, presence_of, put_presence};
 use crate::sets::{left_out, united};
 use jc_rules::{Id, IdSet, Key, Next, Rule, Tagged, Trace};
-use jc_tree::{Hint, Place, TreeStore, place_of};
+use jc_tree::{ANYWHERE, Hint, Place, TreeStore, place_of};
 use std::alloc::{AllocError, Global};
-
-/// For a key of which no hint is known.
-const ANYWHERE: Hint = Hint { number: 0 };
 
 /// Clears a key under each tag, and takes the dependencies out of its presence set. A key that was cleared before, and
 /// has got nothing since, is written down and no more.
@@ -119,7 +116,7 @@ fn clear_map<S: TreeStore>(
     ensures names_stay { NamesStay (S.names store.old) (S.names store.new) }
     ensures kept { TreeCanGoBack (S.tree store.old) (S.tree store.new) trace.old trace.new }
 {
-    let Some(child) = store.map_by(place, at.as_slice(), key, hint) else {
+    let Some(child) = store.map_by(place, key, hint) else {
         trace.push(Rule::ClearNone)?;
         return Ok(Vec::new(alloc));
     };
@@ -138,9 +135,9 @@ fn has_content<S: TreeStore>(store: &S, place: Place, at: &[Tagged], key: &Key, 
     requires named { S.names store.now place at.now }
     ensures { result ≡ has_content (here at.now (S.tree store.now)) key.now }
 {
-    store.register_by(place, at, key, hint).is_some()
-        || store.map_by(place, at, key, hint).is_some()
-        || store.list_by(place, at, key, hint).is_some()
+    store.register_by(place, key, hint).is_some()
+        || store.map_by(place, key, hint).is_some()
+        || store.list_by(place, key, hint).is_some()
 }
 
 /// Clears the first keys of the map at the place as long as they were cleared before, and returns those behind them that
@@ -158,7 +155,7 @@ fn clear_first<S: TreeStore>(
         → ThroughKeys deps at.now (S.tree store.now) trace.old (S.tree store.now) (keys_of keys.items) [] trace.new) }
     ensures kept { TreeCanGoBack (S.tree store.now) (S.tree store.now) trace.old trace.new }
 {
-    let keys = store.keys_at(alloc, place, at)?;
+    let keys = store.keys_at(alloc, place)?;
     let mut left = Vec::new(alloc);
     for lent in keys.as_slice() {
         if left.is_empty() && is_cleared(store, place, at, lent.0, lent.1) {
@@ -224,7 +221,7 @@ fn clear_list<S: TreeStore>(
     ensures names_stay { NamesStay (S.names store.old) (S.names store.new) }
     ensures kept { TreeCanGoBack (S.tree store.old) (S.tree store.new) trace.old trace.new }
 {
-    let Some(child) = store.list_by(place, at.as_slice(), key, hint) else {
+    let Some(child) = store.list_by(place, key, hint) else {
         trace.push(Rule::ClearNone)?;
         return Ok(Vec::new(alloc));
     };
@@ -262,7 +259,7 @@ fn list_in<S: TreeStore>(
     let mut key = Some(Key::Head);
     let mut hint = ANYWHERE;
     while let Some(element) = key {
-        let step = store.step_by(place, at.as_slice(), &element, hint);
+        let step = store.step_by(place, &element, hint);
         let Some(next) = step.next else {
             unreachable!();
         };

@@ -41,7 +41,7 @@ pub(crate) fn presence_of<S: TreeStore>(
     ensures err { OnErr result (trace.new ≡ trace.old) }
     ensures kept { IsLonger trace.old trace.new }
 {
-    match store.presence_by(place, at, key, hint) {
+    match store.presence_by(place, key, hint) {
         Some(ids) => {
             let ids = ids.to_vec(alloc)?;
             trace.push(Rule::Presence1)?;
@@ -81,10 +81,10 @@ pub(crate) fn put_presence<S: TreeStore>(
     ensures names_stay { NamesStay (S.names store.old) (S.names store.new) }
     ensures kept { IsLater (S.tree store.old) (S.tree store.new) }
 {
-    if is_set(store.presence_by(place, at, key, hint), ids) {
+    if is_set(store.presence_by(place, key, hint), ids) {
         return Ok(());
     }
-    store.set_presence_at(place, at, key, ids)
+    store.set_presence_at(place, key, ids)
 }
 
 /// The pairs whose identifier isn't in the set.
@@ -125,7 +125,7 @@ pub fn clear_register<S: TreeStore>(
     ensures names_stay { NamesStay (S.names store.old) (S.names store.new) }
     ensures kept { TreeCanGoBack (S.tree store.old) (S.tree store.new) trace.old trace.new }
 {
-    match store.register_by(place, at, key, hint) {
+    match store.register_by(place, key, hint) {
         None => {
             trace.push(Rule::ClearNone)?;
             Ok(Vec::new(alloc))
@@ -137,7 +137,7 @@ pub fn clear_register<S: TreeStore>(
             if is_same(pairs, left.as_slice()) {
                 return Ok(ids);
             }
-            store.set_register_at(place, at, key, left)?;
+            store.set_register_at(place, key, left)?;
             Ok(ids)
         }
     }

@@ -21,7 +21,7 @@ ghost use Rattle.jc_cursor.specs.Evaluates.{eval_cause_of};
 
 use crate::evaluating::EvalFault;
 use jc_rules::{Id, Key, Next, Rule, Tagged, Trace};
-use jc_tree::{Hint, Place, TreeStore};
+use jc_tree::{ANYWHERE, Hint, Place, TreeStore};
 use std::alloc::AllocError;
 
 /// How far a walk has come: the key, where to look first for it, and how many present elements are left to
@@ -119,13 +119,13 @@ fn go_over_one<S: TreeStore>(
         × ((i : AnyId) → next_of walk.now.key (here at.now (S.tree store.now)) ≢ Some (To i)))) }
     ensures grown { IsGrown trace.old trace.new }
 {
-    let step = store.step_by(place, at, &walk.key, walk.hint);
+    let step = store.step_by(place, &walk.key, walk.hint);
     let Some(id) = element_of(step.next) else {
         return Err(EvalFault::PastEnd);
     };
     let key = Key::Elem(id);
     let hint = step.hint;
-    let ahead = store.step_by(place, at, &key, hint);
+    let ahead = store.step_by(place, &key, hint);
     if ahead.present {
         trace.open(Rule::Idx3)?;
         let left = walk.left - 1;
@@ -155,7 +155,7 @@ fn go_on<S: TreeStore>(
         × ((i : AnyId) → next_of walk.now.key (here at.now (S.tree store.now)) ≢ Some (To i)))) }
     ensures grown { IsGrown trace.old trace.new }
 {
-    let Some(stretch) = store.stretch_by(place, at, &walk.key, walk.hint, walk.left) else {
+    let Some(stretch) = store.stretch_by(place, &walk.key, walk.hint, walk.left) else {
         return go_over_one(store, place, at, walk, trace);
     };
     let present = go_over(stretch.count, stretch.bits, trace)?;
@@ -188,7 +188,7 @@ pub fn element_at<S: TreeStore>(
 {
     let mut walk = Walk {
         key: Key::Head,
-        hint: Hint { number: 0 },
+        hint: ANYWHERE,
         left: index as usize,
     };
     while walk.left > 0 {

@@ -31,7 +31,7 @@ use crate::walk::{go_down, is_present};
 use jc_rules::limits::MAX_PATH;
 use jc_rules::{Cursor, Key, Names, Pairs, Path, Rule, Tagged, Text, Trace};
 use jc_syntax::Expr;
-use jc_tree::{Hint, Place, TreeStore};
+use jc_tree::{ANYWHERE, Hint, Place, TreeStore};
 use std::alloc::{AllocError, Global};
 
 /// The path with one key more.
@@ -171,8 +171,8 @@ fn names_at<S: TreeStore>(
     ensures { IfOk result (λ names. names ≡ names_in (here at.now (S.tree store.now))) }
 {
     // Each name has such a set, so the list doesn't grow.
-    let mut names = Vec::with_capacity(alloc, store.count_present(at))?;
-    let keys = store.keys_at(alloc, place, at)?;
+    let mut names = Vec::with_capacity(alloc, store.count_present_at(place))?;
+    let keys = store.keys_at(alloc, place)?;
     for lent in keys.as_slice() {
         push_name(store, place, at, lent.0, lent.1, &mut names)?;
     }
@@ -196,7 +196,7 @@ fn names_below<S: TreeStore>(
     let at = cursor.path.as_slice();
     let place = go_down(store, at, Rule::Keys3, trace)?;
     let key = Tagged::MapT(cursor.last.copy()?);
-    let Some(map) = store.below(place, at, &key) else {
+    let Some(map) = store.below(place, &key) else {
         return Err(EvalFault::NoMap);
     };
     trace.push(Rule::Keys2)?;
@@ -220,7 +220,7 @@ fn values_below<S: TreeStore>(
 {
     let at = cursor.path.as_slice();
     let place = go_down(store, at, Rule::Val3, trace)?;
-    let Some(pairs) = store.register_at(place, at, &cursor.last) else {
+    let Some(pairs) = store.register_by(place, &cursor.last, ANYWHERE) else {
         return Err(EvalFault::NoRegister);
     };
     trace.push(Rule::Val2)?;

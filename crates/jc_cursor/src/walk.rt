@@ -32,7 +32,7 @@ pub fn go_down<S: TreeStore>(
 {
     let mut place = store.root();
     for (depth, key) in path.iter().enumerate() {
-        let Some(child) = store.below(place, &path[..depth], key) else {
+        let Some(child) = store.below(place, key) else {
             return Err(EvalFault::NoSuchNode(key.copy()?));
         };
         place = child;
@@ -55,7 +55,7 @@ pub fn is_present<S: TreeStore>(
     ensures present { IsTrue result → IsEmptyIds (presence_set key.now (here at.now (S.tree store.now))) → ⊥ }
     ensures absent { IsFalse result → IsEmptyIds (presence_set key.now (here at.now (S.tree store.now))) }
 {
-    match store.presence_by(place, at, key, hint) {
+    match store.presence_by(place, key, hint) {
         Some(ids) => !ids.is_empty(),
         None => false,
     }

@@ -9,10 +9,12 @@ use Rattle.json.specs.Written.{Written}
 use Rattle.jc_rules.specs.declared.id.Id.{Id}
 use Rattle.jc_rules.specs.declared.key.Key.{Key}
 use Rattle.jc_rules.specs.declared.key.Tagged.TheVariants.{MapT, ListT, RegT}
+use Rattle.jc_rules.specs.Context.{Register}
 use Rattle.jc_rules.proofs.BoolLemmas.{no_truth}
 use Rattle.jc_json.specs.Json.{id_text}
 use Rattle.jc_json.specs.Gains.{Gains}
-use Rattle.jc_json.specs.Values.{string_items}
+use Rattle.jc_json.specs.Values.{string_items, pair_items}
+use Rattle.jc_json.specs.declared.writing.Numbers.TheVariants.{Named}
 use Rattle.jc_json.proofs.GainsLemmas.{gains_nothing, gains_then, gains_between}
 use Rattle.jc_effects.specs.declared.own.Tags.{Tags}
 use Rattle.jc_effects.specs.Difference.{OwnDifference, Differences, no_difference, difference, is_no_difference}
@@ -128,6 +130,10 @@ place_written a b c d e f g h names k o m l rest begins front list middle maps b
 pub items_empty : {X : Type 0} (f : X → Json) (xs : List X) (b : Bool) → b ≡ (length xs == 0) → b ≡ false → is_no_item (as_items (map f xs)) ≡ false
 items_empty f [] b e g = let z : true ≡ false = sym e ∙ g in no_truth (sym z)
 items_empty f (x ∷ xs) b e g = refl
+
+pub pairs_there : (names : List (List ℕ)) (r : Register) (b : Bool) → b ≡ (length r == 0) → b ≡ false → is_no_item (pair_items Named names r) ≡ false
+pairs_there names [] b e g = let z : true ≡ false = sym e ∙ g in no_truth (sym z)
+pairs_there names (p ∷ r) b e g = refl
 
 -- a list of identifiers, as their texts and one by one
 pub id_items : (names : List (List ℕ)) (ids : List Id) → string_items (map (λ i. id_text names i) ids) ≡ as_items (map (id_json names) ids)

@@ -7,10 +7,10 @@ use Rattle.jc_rules.specs.declared.key.Next.{Next}
 use Rattle.jc_rules.specs.declared.key.Next.TheVariants.{Tail, Elem as To}
 use Rattle.jc_rules.specs.declared.key.Tagged.{Tagged}
 use Rattle.jc_rules.specs.declared.key.Tagged.TheVariants.{MapT, ListT, RegT}
-use Rattle.jc_rules.specs.declared.value.Value.{Value}
 use Rattle.jc_rules.specs.Context.{Register}
 use Rattle.jc_json.specs.Json.{id_text, key_text}
-use Rattle.jc_json.specs.Values.{dumped_value}
+use Rattle.jc_json.specs.Values.{pair_items}
+use Rattle.jc_json.specs.declared.writing.Numbers.TheVariants.{Named}
 use Rattle.jc_effects.specs.Difference.{OwnDifference, Differences, no_difference, difference}
 
 -- a value under a name
@@ -37,11 +37,8 @@ id_json names i = string (id_text names i)
 abbrev pub some_ids : List (List ℕ) → List ℕ → List Id → List Labelled
 some_ids names name ids = some_items name (as_items (map (id_json names) ids))
 
-abbrev pub id_and_value : List (List ℕ) → Id × Value → Json
-id_and_value names e = array (item (id_json names e.0) (item (dumped_value e.1) no_items))
-
 abbrev pub some_pairs : List (List ℕ) → List ℕ → Register → List Labelled
-some_pairs names name r = some_items name (as_items (map (id_and_value names) r))
+some_pairs names name r = some_items name (pair_items Named names r)
 
 abbrev pub tag_word : Tagged → Json
 tag_word (MapT k) = string (codes "map")

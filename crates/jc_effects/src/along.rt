@@ -16,12 +16,12 @@ ghost use Rattle.jc_effects.specs.Parts.{AreContexts, AreLater, IsDifferenceAmon
 
 use crate::below::{Change, Contexts, child_below, contexts_below};
 use crate::effects::{Effects, with_place};
-use crate::entries::{NO_HINT, entries_at, has_tag_in, ids_in, link_in};
+use crate::entries::{entries_at, has_tag_in, ids_in, link_in};
 use crate::own::{
     Candidates, NO_TAGS, OwnEffects, Tags, ids_without, link_changed, own_between, shown_between,
 };
 use jc_rules::{Id, Key, Mutation, Next, Op, Tagged, Value, compare_ids, compare_keys};
-use jc_tree::{Place, TreeStore};
+use jc_tree::{ANYWHERE, Place, TreeStore};
 use std::alloc::{AllocError, Global};
 
 fn is_delete(mutation: &Mutation) -> bool
@@ -87,8 +87,8 @@ fn own_on_path<S: TreeStore>(
     ensures { IfOk result (λ own. own_seen (key_of_tagged tagged.now) own ≡ own_difference (key_of_tagged tagged.now)
         (seen at.now (S.tree change.now.old.now).now) (seen at.now (S.tree change.now.new.now).now)) }
 {
-    let was = ids_in(change.old, contexts.old, at, tagged.key(), NO_HINT);
-    let now = ids_in(change.new, contexts.new, at, tagged.key(), NO_HINT);
+    let was = ids_in(change.old, contexts.old, at, tagged.key(), ANYWHERE);
+    let now = ids_in(change.new, contexts.new, at, tagged.key(), ANYWHERE);
     let id = [change.op.id];
     let came = ids_if(!is_delete(&change.op.mutation), &id);
     Ok(OwnEffects {

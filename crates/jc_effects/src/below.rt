@@ -157,7 +157,7 @@ fn places_below<S: TreeStore>(
     ensures path { OnOk result (at.new.items ≡ at.old.items) }
 {
     let mut effects = Effects::Nothing;
-    let mut keys = change.old.keys_at(change.alloc, place, at.as_slice())?;
+    let mut keys = change.old.keys_at(change.alloc, place)?;
     while let Some(lent) = keys.pop() {
         if ids_in(change.old, contexts.old, at.as_slice(), lent.0, lent.1).is_empty() {
             // Where nothing was, nothing was lost.

@@ -12,7 +12,7 @@ ghost use Rattle.jc_effects.specs.Parts.{IsNameOf, AreEntries};
 
 use crate::own::Tags;
 use jc_rules::{Id, Key, Next, Tagged, Value};
-use jc_tree::{Hint, Place, TreeStore};
+use jc_tree::{ANYWHERE, Hint, Place, TreeStore};
 
 /// What stands under a key. A presence set or a register that isn't there is as an empty one.
 #[derive(Clone, Copy)]
@@ -22,9 +22,6 @@ pub(crate) struct Entries<'a> {
     pub next: Option<Next>,
     pub pairs: &'a [(Id, Value)],
 }
-
-/// Where to look first for a key of which nothing is known.
-pub(crate) const NO_HINT: Hint = Hint { number: 0 };
 
 /// The presence set of the key; `hint` is where to look first.
 pub(crate) fn ids_in<'a, S: TreeStore>(
@@ -41,7 +38,7 @@ pub(crate) fn ids_in<'a, S: TreeStore>(
     let Some(place) = place else {
         return &[];
     };
-    match store.presence_by(place, at, key, hint) {
+    match store.presence_by(place, key, hint) {
         Some(ids) => ids,
         None => &[],
     }
@@ -62,7 +59,7 @@ pub(crate) fn pairs_in<'a, S: TreeStore>(
     let Some(place) = place else {
         return &[];
     };
-    match store.register_by(place, at, key, hint) {
+    match store.register_by(place, key, hint) {
         Some(pairs) => pairs,
         None => &[],
     }
@@ -77,9 +74,9 @@ fn tags_in<S: TreeStore>(store: &S, place: Option<Place>, at: &[Tagged], key: &K
 {
     match place {
         Some(place) => Tags {
-            map: store.map_by(place, at, key, NO_HINT).is_some(),
-            list: store.list_by(place, at, key, NO_HINT).is_some(),
-            register: store.register_at(place, at, key).is_some(),
+            map: store.map_by(place, key, ANYWHERE).is_some(),
+            list: store.list_by(place, key, ANYWHERE).is_some(),
+            register: store.register_by(place, key, ANYWHERE).is_some(),
         },
         None => Tags {
             map: false,
@@ -103,9 +100,9 @@ pub(crate) fn has_tag_in<S: TreeStore>(
         return false;
     };
     match tagged {
-        Tagged::MapT(key) => store.map_by(place, at, key, NO_HINT).is_some(),
-        Tagged::ListT(key) => store.list_by(place, at, key, NO_HINT).is_some(),
-        Tagged::RegT(key) => store.register_at(place, at, key).is_some(),
+        Tagged::MapT(key) => store.map_by(place, key, ANYWHERE).is_some(),
+        Tagged::ListT(key) => store.list_by(place, key, ANYWHERE).is_some(),
+        Tagged::RegT(key) => store.register_by(place, key, ANYWHERE).is_some(),
     }
 }
 
@@ -130,7 +127,7 @@ pub(crate) fn link_in<S: TreeStore>(
     ensures { result ≡ next_of key.now (seen at.now (S.tree store.now).now) }
 {
     match place {
-        Some(place) => store.step_by(place, at, key, NO_HINT).next,
+        Some(place) => store.step_by(place, key, ANYWHERE).next,
         None => new_link(at.last(), key),
     }
 }
@@ -146,10 +143,10 @@ pub(crate) fn entries_at<'a, S: TreeStore>(
     ensures { AreEntries key.now (seen at.now (S.tree store.now).now) result }
 {
     Entries {
-        ids: ids_in(store, place, at, key, NO_HINT),
+        ids: ids_in(store, place, at, key, ANYWHERE),
         tags: tags_in(store, place, at, key),
         next: link_in(store, place, at, key),
-        pairs: pairs_in(store, place, at, key, NO_HINT),
+        pairs: pairs_in(store, place, at, key, ANYWHERE),
     }
 }
 
@@ -164,7 +161,7 @@ pub(crate) fn name_below<S: TreeStore>(
     ensures { IsNameOf (S.names store.now) (S.tree store.now) (at.now ++ tagged.now ∷ []) result }
 {
     match place {
-        Some(place) => store.below(place, at, tagged),
+        Some(place) => store.below(place, tagged),
         None => None,
     }
 }

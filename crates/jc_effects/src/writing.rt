@@ -1,17 +1,16 @@
 //! Writes the places that differ as JSON.
 
 ghost use Rattle.std.specs.Prelude.{◌≡◌, ◌++◌, ◌∷◌, [], codes, cond, map, OnOk};
-ghost use Rattle.json.specs.Json.{array};
 ghost use Rattle.json.specs.Token as T;
 ghost use Rattle.json.specs.Tree.{json_tokens};
 ghost use Rattle.jc_rules.specs.declared.key.Key.{Key as AnyKey};
 ghost use Rattle.jc_json.specs.Gains.{Gains};
 ghost use Rattle.jc_effects.specs.Parts.{own_seen, differences_of, tags_made, labelled_tokens, item_tokens, first_place_tokens, front_members, middle_members, back_members};
-ghost use Rattle.jc_effects.specs.EffectsJson.{as_items, id_json, some_ids, some_pairs, some_items, some_tags, link_json, some_links, if_shown, id_and_value, place_items, effects_json};
+ghost use Rattle.jc_effects.specs.EffectsJson.{as_items, id_json, some_ids, some_pairs, some_items, some_tags, link_json, some_links, if_shown, place_items, effects_json};
 
 use crate::effects::Effects;
 use crate::own::{OwnEffects, Tags};
-use jc_json::{key_text, write_id, write_ids, write_value};
+use jc_json::{Numbers, key_text, write_id, write_ids, write_pairs};
 use jc_rules::{Id, Key, Next, Text, Value};
 use json::Writer;
 use std::alloc::{AllocError, Global};
@@ -33,41 +32,8 @@ fn write_some_ids(
     write_ids(alloc, names, ids, out)
 }
 
-/// Writes a pair: the identifier's text, then the value.
-fn write_pair(
-    alloc: Global,
-    names: &[Text],
-    id: Id,
-    value: &Value,
-    out: &mut Writer,
-) -> Result<(), AllocError>
-    ensures { OnOk result (Gains out.old out.new (json_tokens (id_and_value names.now (id, value.now)))) }
-{
-    out.begin_array()?;
-    write_id(alloc, names, id, out)?;
-    write_value(value, out)?;
-    out.end_array()
-}
-
-/// Writes a list of pairs.
-fn write_pair_list(
-    alloc: Global,
-    names: &[Text],
-    pairs: &[(Id, Value)],
-    out: &mut Writer,
-) -> Result<(), AllocError>
-    ensures { OnOk result (Gains out.old out.new
-        (json_tokens (array (as_items (map (id_and_value names.now) pairs.now))))) }
-{
-    out.begin_array()?;
-    for (id, value) in pairs {
-        write_pair(alloc, names, *id, value, out)?;
-    }
-    out.end_array()
-}
-
 /// Writes a list of pairs as a member, unless it is empty.
-fn write_pairs(
+fn write_some_pairs(
     alloc: Global,
     names: &[Text],
     name: &str,
@@ -80,7 +46,7 @@ fn write_pairs(
         return Ok(());
     }
     out.key(name)?;
-    write_pair_list(alloc, names, pairs, out)
+    write_pairs(alloc, names, pairs, Numbers::Named, out)
 }
 
 /// Writes the word, if it is meant.
@@ -194,8 +160,8 @@ fn write_back(
 {
     write_links(alloc, names, own.next, out)?;
     write_shown(own.shown, out)?;
-    write_pairs(alloc, names, "taken", own.taken.as_slice(), out)?;
-    write_pairs(alloc, names, "written", own.written.as_slice(), out)
+    write_some_pairs(alloc, names, "taken", own.taken.as_slice(), out)?;
+    write_some_pairs(alloc, names, "written", own.written.as_slice(), out)
 }
 
 /// Writes places as a member, unless there are none.

@@ -13,7 +13,7 @@ ghost use Rattle.jc_journal.specs.Operation.{json_object, cursor_json, counter_m
 ghost use Rattle.jc_journal.specs.Parts.{member_tokens};
 
 use crate::members::write_text;
-use jc_json::{id_text, key_text, tagged_text, write_id, write_value};
+use jc_json::{Numbers, id_text, key_text, tagged_text, write_id, write_value};
 use jc_rules::{Cursor, Id, IdSet, Key, Mutation, Op, Tagged, Text, name_at};
 use json::Writer;
 use std::alloc::{AllocError, Global};
@@ -122,7 +122,7 @@ fn write_mutation_value(mutation: &Mutation, out: &mut Writer) -> Result<(), All
     match mutation {
         Mutation::Assign(value) | Mutation::Insert(value) => {
             out.key("value")?;
-            write_value(value, out)
+            write_value(value, Numbers::Named, out)
         }
         Mutation::Delete => Ok(()),
     }

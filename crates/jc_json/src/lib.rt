@@ -11,4 +11,4 @@ pub use send::{granted, send_ids, send_value};
 pub use texts::{id_text, key_text, tagged_text};
 pub use tree::Tree;
 pub use values::json_value;
-pub use writing::{write_id, write_ids, write_value};
+pub use writing::{Numbers, write_id, write_ids, write_pairs, write_value};

@@ -144,7 +144,7 @@ fn texts_at<'a, S: TreeStore>(
     ensures order { IfOk result (λ texts. AreInOrder texts.items) }
     ensures texts { IfOk result (λ texts. AreTextsOf names.now (here at.now (S.tree store.now)) texts.items) }
 {
-    let keys = store.keys_at(alloc, place, at)?;
+    let keys = store.keys_at(alloc, place)?;
     let lens = write_texts(all, alloc, names, keys.as_slice())?;
     let mut texts = texts_of(alloc, all.as_str(), lens.as_slice(), keys.as_slice())?;
     texts.sort_by(|one, other| one.0.cmp(&other.0))?;
@@ -168,16 +168,16 @@ fn part_at<'a, S: TreeStore>(
 {
     match kind {
         Kind::List => {
-            let child = store.list_by(place, at, key, hint)?;
+            let child = store.list_by(place, key, hint)?;
             Some(Part::Child(Branch::List, key, child))
         }
         Kind::Map => {
-            let child = store.map_by(place, at, key, hint)?;
+            let child = store.map_by(place, key, hint)?;
             Some(Part::Child(Branch::Map, key, child))
         }
-        Kind::Next => Some(Part::Link(store.step_by(place, at, key, hint).next?)),
-        Kind::Presence => Some(Part::Presence(store.presence_by(place, at, key, hint)?)),
-        Kind::Register => Some(Part::Register(store.register_by(place, at, key, hint)?)),
+        Kind::Next => Some(Part::Link(store.step_by(place, key, hint).next?)),
+        Kind::Presence => Some(Part::Presence(store.presence_by(place, key, hint)?)),
+        Kind::Register => Some(Part::Register(store.register_by(place, key, hint)?)),
     }
 }
 

@@ -21,9 +21,10 @@ use Rattle.jc_rules.specs.Context.{Register}
 use Rattle.jc_rules.specs.State.{State}
 use Rattle.jc_rules.specs.VersionVectors.{greatest_of}
 use Rattle.jc_json.specs.Json.{id_text, key_text}
-use Rattle.jc_json.specs.Values.{dumped_value}
+use Rattle.jc_json.specs.Values.{dumped_value, pair_items}
+use Rattle.jc_json.specs.declared.writing.Numbers.TheVariants.{Named}
 use Rattle.jc_effects.specs.Difference.{OwnDifference, Differences, no_difference, difference}
-use Rattle.jc_effects.specs.EffectsJson.{Labelled, as_members, as_items, some_items, id_json, some_ids, id_and_value, some_pairs, tag_word, some_tags, link_json, some_links, if_shown, place_members, place_items}
+use Rattle.jc_effects.specs.EffectsJson.{Labelled, as_members, as_items, some_items, id_json, some_ids, some_pairs, tag_word, some_tags, link_json, some_links, if_shown, place_members, place_items}
 use Rattle.jc_journal.specs.Operation.{json_object, cursor_texts, counter_member, counter_members, mutation_value, op_json}
 use Rattle.jc_journal.specs.EventLine.{given_member, event_member, kind_member, number_member, replica_member, command_member, sender_member, new_ids, new_member, event_op, op_member, effects_member, rule_items, rules_member, event_members}
 use Rattle.jc_listings.specs.declared.journals.Details.{Details}
@@ -56,7 +57,7 @@ value_line V.Null = tt
 value_line V.EmptyMap = tt
 value_line V.EmptyList = tt
 
-pairs_lines : (names : List (List ℕ)) (r : Register) → ItemsHaveLineNumbers (as_items (map (id_and_value names) r))
+pairs_lines : (names : List (List ℕ)) (r : Register) → ItemsHaveLineNumbers (pair_items Named names r)
 pairs_lines names [] = tt
 pairs_lines names (e ∷ r) = ((tt, (value_line e.1, tt)), pairs_lines names r)
 

@@ -8,11 +8,8 @@ ghost use Rattle.jc_tree.specs.Tree.{HasPlace, here};
 ghost use Rattle.jc_meaning.specs.Compared.{SameTree, IsSameNode, IsSameRegister, IsSameKey, HasPresence, ArePresencesSame, HasLink, AreLinksSame};
 
 use jc_rules::{Id, Key, Next, Tagged, Value};
-use jc_tree::{Hint, Place, TreeStore};
+use jc_tree::{ANYWHERE, KeysOf, Place, TreeStore};
 use std::alloc::{AllocError, Global};
-
-/// For a key of which no hint is known.
-const ANYWHERE: Hint = Hint { number: 0 };
 
 /// Whether the trees of both stores are the same, but for empty presence sets. Nothing but memory is refused.
 pub fn same_tree<S: TreeStore, T: TreeStore>(
@@ -71,8 +68,8 @@ fn same_keys<S: TreeStore, T: TreeStore>(
     ensures place { OnOk result (at.new.items ≡ at.old.items) }
 {
     let mut last = None;
-    while let Some(key) = left.key_after_at(place, at.as_slice(), last) {
-        if !is_key(right.key_after_at(other, at.as_slice(), last), key) {
+    while let Some(key) = left.after_at(place, KeysOf::Content, last) {
+        if !is_key(right.after_at(other, KeysOf::Content, last), key) {
             return Ok(false);
         }
         if !same_key(left, right, place, other, at, key)? {
@@ -80,7 +77,7 @@ fn same_keys<S: TreeStore, T: TreeStore>(
         }
         last = Some(key);
     }
-    Ok(right.key_after_at(other, at.as_slice(), last).is_none())
+    Ok(right.after_at(other, KeysOf::Content, last).is_none())
 }
 
 /// Whether both contexts have the same map, list and register under the key.
@@ -130,10 +127,10 @@ fn same_child<S: TreeStore, T: TreeStore>(
         ↔ IsSameNode tagged (here at.old.items (S.tree left.now)) (here at.old.items (T.tree right.now))) }
     ensures place { OnOk result (at.new.items ≡ at.old.items) }
 {
-    let Some(lower) = left.below(place, at.as_slice(), &tagged) else {
-        return Ok(right.below(other, at.as_slice(), &tagged).is_none());
+    let Some(lower) = left.below(place, &tagged) else {
+        return Ok(right.below(other, &tagged).is_none());
     };
-    let Some(upper) = right.below(other, at.as_slice(), &tagged) else {
+    let Some(upper) = right.below(other, &tagged) else {
         return Ok(false);
     };
     let depth = at.len();
@@ -167,8 +164,8 @@ fn same_register<S: TreeStore, T: TreeStore>(
         ↔ IsSameRegister key.now (here at.now (S.tree left.now)) (here at.now (T.tree right.now)) }
 {
     match (
-        left.register_at(place, at, key),
-        right.register_at(other, at, key),
+        left.register_by(place, key, ANYWHERE),
+        right.register_by(other, key, ANYWHERE),
     ) {
         (Some(pairs), Some(others)) => same_pairs(pairs, others),
         (None, None) => true,
@@ -216,7 +213,7 @@ fn has_presences<S: TreeStore, T: TreeStore>(
         ↔ ((k : Key) → HasPresence (here at.now (S.tree left.now)) (here at.now (T.tree right.now)) k) }
 {
     let mut last = None;
-    while let Some(key) = left.presence_after_at(place, at, last) {
+    while let Some(key) = left.after_at(place, KeysOf::Presence, last) {
         if !has_presence(left, right, place, other, at, key) {
             return false;
         }
@@ -241,8 +238,8 @@ fn has_presence<S: TreeStore, T: TreeStore>(
     ensures { IsTrue result ↔ HasPresence (here at.now (S.tree left.now)) (here at.now (T.tree right.now)) key.now }
 {
     match (
-        left.presence_by(place, at, key, ANYWHERE),
-        right.presence_by(other, at, key, ANYWHERE),
+        left.presence_by(place, key, ANYWHERE),
+        right.presence_by(other, key, ANYWHERE),
     ) {
         (Some(ids), Some(others)) => ids.is_empty() || same_ids(ids, others),
         (Some(ids), None) => ids.is_empty(),
@@ -262,7 +259,7 @@ fn next_at<S: TreeStore>(store: &S, place: Place, at: &[Tagged], key: &Key) -> O
     requires named { S.names store.now place at.now }
     ensures { result ≡ next key.now (here at.now (S.tree store.now)) }
 {
-    store.step_by(place, at, key, ANYWHERE).next
+    store.step_by(place, key, ANYWHERE).next
 }
 
 /// Whether each key has the same link in both, or in neither.
@@ -299,7 +296,7 @@ fn has_links<S: TreeStore, T: TreeStore>(
         ↔ ((k : Key) → HasLink (here at.now (S.tree left.now)) (here at.now (T.tree right.now)) k) }
 {
     let mut last = None;
-    while let Some(key) = left.link_after_at(place, at, last) {
+    while let Some(key) = left.after_at(place, KeysOf::Link, last) {
         if next_at(left, place, at, key) != next_at(right, other, at, key) {
             return false;
         }

@@ -2,10 +2,10 @@
 
 use crate::keys::{At, Keys, SECOND, Set, Tag, ids_of};
 use crate::placed::Placed;
-use crate::steps::{Kind, Step};
+use crate::steps::Step;
 use crate::twins::Twins;
 use jc_rules::{Id, Key, Next};
-use jc_tree::{TreeStore, is_place};
+use jc_tree::{KeysOf, TreeStore, is_place};
 use std::alloc::AllocError;
 use std::process::Abort;
 
@@ -51,12 +51,12 @@ impl<S: TreeStore> Placed<S> {
     }
 
     /// Whether the key of this number is the one behind the given key.
-    fn comes_after(&self, of: Kind, above: Option<&Key>, number: u64) -> bool {
+    fn comes_after(&self, of: KeysOf, above: Option<&Key>, number: u64) -> bool {
         self.after(of, above) == Some(&element(number))
     }
 
     /// Whether just these keys are there, behind the given one.
-    fn has_many(&self, of: Kind, first: Option<&Key>) -> bool {
+    fn has_many(&self, of: KeysOf, first: Option<&Key>) -> bool {
         for number in 1..MANY {
             if !self.comes_after(of, Some(&element(number - 1)), number) {
                 return false;
@@ -79,8 +79,8 @@ impl<S: TreeStore> Placed<S> {
 
     /// Whether the keys are there, with presence sets and with links, which stand behind the given key.
     fn has_all(&self, first: Option<&Key>) -> bool {
-        self.has_many(Kind::Presence, None)
-            && self.has_many(Kind::Link, first)
+        self.has_many(KeysOf::Presence, None)
+            && self.has_many(KeysOf::Link, first)
             && self.has_number(MANY / 2)
             && self.has_number(MANY - 1)
     }
@@ -99,14 +99,14 @@ const A_LIST: &[Step] = &[
 ];
 
 const NONE_LEFT: &[Step] = &[
-    Step::Keys(Kind::Presence, &[]),
-    Step::Keys(Kind::Link, &[]),
+    Step::Keys(KeysOf::Presence, &[]),
+    Step::Keys(KeysOf::Link, &[]),
     Step::Changes(0),
 ];
 
 const HEAD_LEFT: &[Step] = &[
-    Step::Keys(Kind::Presence, &[]),
-    Step::Keys(Kind::Link, &[At::Head]),
+    Step::Keys(KeysOf::Presence, &[]),
+    Step::Keys(KeysOf::Link, &[At::Head]),
     Step::Changes(1),
 ];
 

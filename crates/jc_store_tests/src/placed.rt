@@ -7,9 +7,9 @@ ghost use Rattle.jc_rules.specs.Paths.{HasContext};
 ghost use Rattle.jc_tree.specs.Tree.{HasPlace};
 
 use crate::keys::{At, Keys, Values, ids_of, values_of};
-use crate::steps::{Kind, Step};
+use crate::steps::Step;
 use jc_rules::{Id, Key, Next, Tagged, Value, compare_ids};
-use jc_tree::{Hint, Mark, Place, Stretch, TreeStore, is_place, place_of};
+use jc_tree::{ANYWHERE, Hint, KeysOf, Mark, Place, Stretch, TreeStore, is_place, place_of};
 use std::alloc::AllocError;
 
 /// The name of the place, where there is one.
@@ -54,7 +54,7 @@ impl<S: TreeStore> Placed<S> {
         let Some(place) = name_of(&self.store, at) else {
             return Ok(false);
         };
-        self.store.make_below(place, at, child)?;
+        self.store.make_child_at(place, child)?;
         Ok(true)
     }
 
@@ -84,7 +84,7 @@ impl<S: TreeStore> Placed<S> {
         let Some(place) = name_of(&self.store, at) else {
             return Ok(false);
         };
-        self.store.set_presence_at(place, at, key, ids)?;
+        self.store.set_presence_at(place, key, ids)?;
         Ok(name_of(&self.store, at) == Some(place))
     }
 
@@ -104,7 +104,7 @@ impl<S: TreeStore> Placed<S> {
             return Ok(false);
         };
         let was = self.store.presence(at, key).is_some();
-        let told = self.store.add_presence_at(place, at, key, id)?;
+        let told = self.store.add_presence_at(place, key, id)?;
         Ok(told == was && name_of(&self.store, at) == Some(place))
     }
 
@@ -122,7 +122,7 @@ impl<S: TreeStore> Placed<S> {
         let Some(place) = name_of(&self.store, at) else {
             return Ok(false);
         };
-        self.store.set_next_at(place, at, key, next)?;
+        self.store.set_next_at(place, key, next)?;
         Ok(name_of(&self.store, at) == Some(place))
     }
 
@@ -148,8 +148,7 @@ impl<S: TreeStore> Placed<S> {
             return Ok(false);
         };
         let pairs = values_of(keys.alloc, values)?;
-        self.store
-            .set_register_at(place, path, keys.key(at), pairs)?;
+        self.store.set_register_at(place, keys.key(at), pairs)?;
         Ok(name_of(&self.store, path) == Some(place))
     }
 
@@ -181,8 +180,11 @@ impl<S: TreeStore> Placed<S> {
         let Some(place) = name_of(&self.store, at) else {
             return Ok(false);
         };
-        let was = self.store.register_at(place, at, key).is_some();
-        let told = self.store.put_value_at(place, at, key, id, value)?;
+        let was = self
+            .store
+            .register_by(place, key, ANYWHERE)
+            .is_some();
+        let told = self.store.put_value_at(place, key, id, value)?;
         Ok(told == was && name_of(&self.store, at) == Some(place))
     }
 
@@ -274,7 +276,7 @@ impl<S: TreeStore> Placed<S> {
         let Some(place) = name_of(&self.store, at) else {
             return false;
         };
-        self.store.below(place, at, child).is_some()
+        self.store.below(place, child).is_some()
     }
 
     /// Whether one step along a list from the key says what the other calls say, wherever it looks first.
@@ -289,7 +291,7 @@ impl<S: TreeStore> Placed<S> {
             .presence(at, key)
             .is_some_and(|ids| !ids.is_empty());
         for number in HINTS {
-            let step = self.store.step_by(place, at, key, Hint { number });
+            let step = self.store.step_by(place, key, Hint { number });
             if step.next != next || step.present != present {
                 return false;
             }
@@ -331,7 +333,7 @@ impl<S: TreeStore> Placed<S> {
         };
         for number in HINTS {
             let hint = Hint { number };
-            if let Some(stretch) = self.store.stretch_by(place, at, key, hint, number)
+            if let Some(stretch) = self.store.stretch_by(place, key, hint, number)
                 && !(stretch.count <= number && self.leads_over(key, &stretch))
             {
                 return false;
@@ -350,8 +352,8 @@ impl<S: TreeStore> Placed<S> {
         let pairs = self.store.register(at, key);
         for number in HINTS {
             let hint = Hint { number };
-            if self.store.presence_by(place, at, key, hint) != ids
-                || self.store.register_by(place, at, key, hint) != pairs
+            if self.store.presence_by(place, key, hint) != ids
+                || self.store.register_by(place, key, hint) != pairs
             {
                 return false;
             }
@@ -366,8 +368,8 @@ impl<S: TreeStore> Placed<S> {
     {
         let at = self.at.as_slice();
         match child {
-            Tagged::MapT(key) => self.store.map_by(place, at, key, hint),
-            Tagged::ListT(key) => self.store.list_by(place, at, key, hint),
+            Tagged::MapT(key) => self.store.map_by(place, key, hint),
+            Tagged::ListT(key) => self.store.list_by(place, key, hint),
             Tagged::RegT(_) => None,
         }
     }
@@ -378,7 +380,7 @@ impl<S: TreeStore> Placed<S> {
         let Some(place) = name_of(&self.store, at) else {
             return false;
         };
-        let name = self.store.below(place, at, child);
+        let name = self.store.below(place, child);
         for number in HINTS {
             if self.child_by(place, child, Hint { number }) != name {
                 return false;
@@ -393,7 +395,7 @@ impl<S: TreeStore> Placed<S> {
         let Some(place) = name_of(&self.store, at) else {
             return Ok(false);
         };
-        let lent = self.store.keys_at(keys.alloc, place, at)?;
+        let lent = self.store.keys_at(keys.alloc, place)?;
         if lent.len() != want.len() {
             return Ok(false);
         }
@@ -405,40 +407,40 @@ impl<S: TreeStore> Placed<S> {
         Ok(true)
     }
 
-    /// The least key of the kind above the given one.
-    pub fn after(&self, of: Kind, above: Option<&Key>) -> Option<&Key> {
+    /// The least key of a part of the place, above the given one.
+    pub fn after(&self, of: KeysOf, above: Option<&Key>) -> Option<&Key> {
+        let place = name_of(&self.store, self.at.as_slice())?;
+        self.store.after_at(place, of, above)
+    }
+
+    /// The same, by the path where there is such a call.
+    fn after_by_path(&self, of: KeysOf, above: Option<&Key>) -> Option<&Key> {
         let at = self.at.as_slice();
         if !is_place(&self.store, at) {
             return None;
         }
         match of {
-            Kind::Child => self.store.key_after(at, above),
-            Kind::Presence => self.store.presence_after(at, above),
-            Kind::Link => self.store.link_after(at, above),
+            KeysOf::Content => self.store.key_after(at, above),
+            KeysOf::Presence => self.store.presence_after(at, above),
+            KeysOf::Link => self.after(of, above),
         }
     }
 
-    /// The same, by the name of the place.
-    fn after_named(&self, of: Kind, above: Option<&Key>) -> Option<&Key> {
-        let at = self.at.as_slice();
-        let place = name_of(&self.store, at)?;
-        match of {
-            Kind::Child => self.store.key_after_at(place, at, above),
-            Kind::Presence => self.store.presence_after_at(place, at, above),
-            Kind::Link => self.store.link_after_at(place, at, above),
-        }
+    pub fn count_present(&self) -> Option<usize> {
+        let place = name_of(&self.store, self.at.as_slice())?;
+        Some(self.store.count_present_at(place))
     }
 
-    fn has_just(&self, keys: &Keys, of: Kind, want: &[At]) -> bool {
+    fn has_just(&self, keys: &Keys, of: KeysOf, want: &[At]) -> bool {
         let mut last = None;
         for at in want {
             let key = Some(keys.key(*at));
-            if self.after(of, last) != key || self.after_named(of, last) != key {
+            if self.after(of, last) != key || self.after_by_path(of, last) != key {
                 return false;
             }
             last = key;
         }
-        self.after(of, last).is_none() && self.after_named(of, last).is_none()
+        self.after(of, last).is_none() && self.after_by_path(of, last).is_none()
     }
 
     fn has_values(&self, keys: &Keys, key: At, values: Values) -> Result<bool, AllocError> {
@@ -466,7 +468,7 @@ impl<S: TreeStore> Placed<S> {
                 let key = keys.key(*key);
                 self.store.presence(at, key) == *want && self.reads_alike(key)
             }
-            Step::CountPresent(want) => self.store.count_present(at) == *want,
+            Step::CountPresent(want) => self.count_present() == Some(*want),
             Step::Next(key, want) => {
                 self.store.next(at, keys.key(*key)) == *want && self.steps_alike(keys.key(*key))
             }

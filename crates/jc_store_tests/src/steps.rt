@@ -2,14 +2,7 @@
 
 use crate::keys::{At, Set, Tag, Values};
 use jc_rules::{Id, Next};
-
-/// What keys of a context have: a map, a list or a register; a presence set; a link.
-#[derive(Clone, Copy)]
-pub enum Kind {
-    Child,
-    Presence,
-    Link,
-}
+use jc_tree::KeysOf;
 
 /// A change of a store, a way to another place or back, or what is expected.
 #[derive(Clone, Copy)]
@@ -44,7 +37,7 @@ pub enum Step<'a> {
     Next(At, Option<Next>),
     Values(At, Option<Values>),
     /// The keys of a kind, from the least to the greatest.
-    Keys(Kind, &'a [At]),
+    Keys(KeysOf, &'a [At]),
     /// The keys that are lent, by the name of the place.
     Lent(&'a [At]),
     /// How many changes there are since the marks were last forgotten.

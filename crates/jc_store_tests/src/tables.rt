@@ -2,10 +2,11 @@
 //! three levels down.
 
 use crate::keys::{At, FIRST, Keys, SECOND, Set, Tag, Values};
-use crate::steps::{Kind, Step};
+use crate::steps::Step;
 use crate::turns::{Steps, Turn, in_new_stores};
 use crate::twins::Twins;
 use jc_rules::Next;
+use jc_tree::KeysOf;
 use std::alloc::AllocError;
 use std::process::Abort;
 
@@ -82,21 +83,21 @@ const CHILD_KEYS: &[Step] = &[
     Step::Make(Tag::List, At::First),
     Step::PutValues(At::A, Values::Nothing),
     Step::PutIds(At::Doc, Set::Empty),
-    Step::Keys(Kind::Child, &[At::A, At::A1, At::First]),
+    Step::Keys(KeysOf::Content, &[At::A, At::A1, At::First]),
 ];
 
 const PRESENCE_KEYS: &[Step] = &[
-    Step::Keys(Kind::Presence, &[]),
+    Step::Keys(KeysOf::Presence, &[]),
     Step::PutIdsNamed(At::A, Set::First),
     Step::PutIds(At::Doc, Set::Empty),
-    Step::Keys(Kind::Presence, &[At::Doc, At::A]),
+    Step::Keys(KeysOf::Presence, &[At::Doc, At::A]),
 ];
 
 const LINK_KEYS: &[Step] = &[
-    Step::Keys(Kind::Link, &[]),
+    Step::Keys(KeysOf::Link, &[]),
     Step::LinkNamed(At::First, Next::Tail),
     Step::Link(At::Head, Next::Elem(FIRST)),
-    Step::Keys(Kind::Link, &[At::Head, At::First]),
+    Step::Keys(KeysOf::Link, &[At::Head, At::First]),
 ];
 
 /// Each kind of entry under a key of its own, the greatest key first, and two under one.

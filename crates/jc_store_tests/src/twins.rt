@@ -2,9 +2,9 @@
 
 use crate::keys::{At, Keys, Tag};
 use crate::placed::Placed;
-use crate::steps::{Kind, Step};
+use crate::steps::Step;
 use jc_rules::{Key, Tagged};
-use jc_tree::{ArenaTree, Mark, PlainTree, TreeStore, is_place};
+use jc_tree::{ArenaTree, KeysOf, Mark, PlainTree, TreeStore, is_place};
 use std::alloc::{AllocError, Global};
 use std::process::Abort;
 
@@ -41,11 +41,11 @@ impl Twins {
             && plain.presence(at, key) == arena.presence(at, key)
             && plain.next(at, key) == arena.next(at, key)
             && plain.register(at, key) == arena.register(at, key)
-            && plain.count_present(at) == arena.count_present(at)
+            && self.plain.count_present() == self.arena.count_present()
     }
 
     fn is_same_after(&self, key: &Key) -> bool {
-        for of in [Kind::Child, Kind::Presence, Kind::Link] {
+        for of in [KeysOf::Content, KeysOf::Presence, KeysOf::Link] {
             if self.plain.after(of, Some(key)) != self.arena.after(of, Some(key)) {
                 return false;
             }

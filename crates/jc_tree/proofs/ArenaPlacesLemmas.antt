@@ -1,5 +1,5 @@
 -- About Arena: changes keep the numbers to which paths lead.
-use Rattle.std.proofs.Common.{◌≡◌, ℕ, ◌<◌, ◌≤◌, List, [], ◌∷◌, ◌++◌, length, Option, Some, None, Bool, true, false, is_some, ◌⊎◌, refl, sym, ◌∙◌, ap, arith, cond}
+use Rattle.std.proofs.Common.{◌≡◌, ℕ, zero, suc, ◌<◌, ◌≤◌, List, [], ◌∷◌, ◌++◌, length, Option, Some, None, Bool, true, false, is_some, ◌⊎◌, refl, sym, ◌∙◌, ap, arith, cond}
 use Rattle.std.specs.Ordering.{eq_by_cmp}
 use Rattle.std.proofs.lemmas.Option.{same_Some}
 use Rattle.std.proofs.lemmas.Bool.{cases_order}
@@ -15,10 +15,10 @@ use Rattle.jc_rules.specs.ContextsAt.{node_in, context_at}
 use Rattle.jc_rules.proofs.OrderLemmas.{keys_total, exact_keys}
 use Rattle.jc_rules.proofs.EntriesLemmas.{same-self, same-eq, find-put}
 use Rattle.jc_tree.specs.declared.node.Change.{Change}
-use Rattle.jc_tree.specs.Arena.{Flat, flat_at, with_children, content_of_arena, child_number, go_on, walk, with_child_number, IsSoundArena}
+use Rattle.jc_tree.specs.Arena.{Flat, flat_at, with_children, content_of_arena, child_number, go_on, walk, with_child_number, IsSoundArena, IsNodeAt}
 use Rattle.jc_tree.specs.ArenaUndo.{IsGood}
-use Rattle.jc_tree.proofs.PlacesLemmas.{some_content, no_node}
-use Rattle.jc_tree.proofs.ArenaNumbersLemmas.{content_is, no_walk, past_blank}
+use Rattle.jc_tree.proofs.PlacesLemmas.{some_content, no_node, some_place}
+use Rattle.jc_tree.proofs.ArenaNumbersLemmas.{content_is, no_walk, past_blank, found}
 use Rattle.jc_tree.proofs.ArenaStepsLemmas.{read_at}
 use Rattle.jc_tree.proofs.ArenaChangesLemmas.{with_child, with_change, no_child_blank, at_changed, at_other, same_edge}
 
@@ -134,3 +134,59 @@ walk_same ns ms k (u ∷ at) a = rw (k a u) (go (child_number u (flat_at ns a)) 
 -- a change that makes no node leaves each path its number
 pub numbers_stay : (ns : List Flat) (i : ℕ) (ch : Change) → IsGood ns → i < length ns → (at : List Tagged) → walk (with_change ch i ns) 0 at ≡ walk ns 0 at
 numbers_stay ns i ch g w at = walk_same ns (with_change ch i ns) (λ a u. same_edge ns i ch g.sound w a u) at 0
+
+-- the last step of a way
+record LastStep (ns : List Flat) (a j : ℕ) (at : List Tagged) : Type 0 where
+  front : List Tagged
+  key : Tagged
+  from : ℕ
+  whole : at ≡ front ++ key ∷ []
+  way : walk ns a front ≡ Some from
+  step : child_number key (flat_at ns from) ≡ Some j
+
+last_step : (ns : List Flat) (t : Tagged) (ts : List Tagged) (a j : ℕ) → walk ns a (t ∷ ts) ≡ Some j → LastStep ns a j (t ∷ ts)
+last_step ns t [] a j h = go (child_number t (flat_at ns a)) refl h
+  where
+    go : (o : Option ℕ) → child_number t (flat_at ns a) ≡ o → go_on o (λ i. Some i) ≡ Some j → LastStep ns a j (t ∷ [])
+    go None e f = no_walk f
+    go (Some i) e f = record { front = []; key = t; from = a; whole = refl; way = refl; step = e ∙ f }
+last_step ns t (u ∷ ts) a j h = go (child_number t (flat_at ns a)) refl (λ i. last_step ns u ts i j) h
+  where
+    go : (o : Option ℕ) → child_number t (flat_at ns a) ≡ o → ((i : ℕ) → walk ns i (u ∷ ts) ≡ Some j → LastStep ns i j (u ∷ ts)) → go_on o (λ i. walk ns i (u ∷ ts)) ≡ Some j → LastStep ns a j (t ∷ u ∷ ts)
+    go None e ih f = no_walk f
+    go (Some i) e ih f =
+        let l = ih i f in
+        record { front = t ∷ l.front; key = l.key; from = l.from; whole = ap (λ x. t ∷ x) l.whole; way = rw e l.way; step = l.step }
+
+-- no way leads back to the root
+no_way_back : (ns : List Flat) (t : Tagged) (ts : List Tagged) (j : ℕ) → IsSoundArena ns → walk ns 0 [] ≡ Some j → walk ns 0 (t ∷ ts) ≡ Some j → ⊥
+no_way_back ns t ts j s h g =
+    let l = last_step ns t ts 0 j g in
+    let less = (s.inner l.from j l.key l.step).0 in
+    let root : 0 ≡ j = same_Some 0 j h in
+    omega (arith, less, root)
+
+-- one way leads to a number
+one_way : (n : ℕ) (ns : List Flat) (at q : List Tagged) (j : ℕ) → IsSoundArena ns → length at ≤ n → walk ns 0 at ≡ Some j → walk ns 0 q ≡ Some j → at ≡ q
+one_way n ns [] [] j s w h g = refl
+one_way n ns [] (u ∷ us) j s w h g = absurd (no_way_back ns u us j s h g)
+one_way n ns (t ∷ ts) [] j s w h g = absurd (no_way_back ns t ts j s g h)
+one_way zero ns (t ∷ ts) (u ∷ us) j s w h g = absurd (omega (arith, w))
+one_way (suc n) ns (t ∷ ts) (u ∷ us) j s w h g =
+    let l = last_step ns t ts 0 j h in
+    let m = last_step ns u us 0 j g in
+    let same = s.once l.from m.from j l.key m.key l.step m.step in
+    let longer : length (t ∷ ts) ≡ suc (length l.front) = ap length l.whole ∙ length_last l.front l.key in
+    let fronts : l.front ≡ m.front = one_way n ns l.front m.front l.from s (omega (arith, w, longer)) l.way (rw same.0 m.way) in
+    l.whole ∙ (λ i. fronts i ++ same.1 i ∷ []) ∙ sym m.whole
+  where
+    length_last : (xs : List Tagged) (x : Tagged) → length (xs ++ x ∷ []) ≡ suc (length xs)
+    length_last [] x = refl
+    length_last (y ∷ xs) x = ap suc (length_last xs x)
+
+-- a path that leads to a number leads to a context
+pub at_number : (ns : List Flat) (at : List Tagged) (i : ℕ) → IsGood ns → walk ns 0 at ≡ Some i → IsNodeAt ns i at
+at_number ns at i g h = record { walk = h; only = λ q f. one_way (length at) ns at q i g.sound (omega arith) h f; there = some_place at (content_of_arena ns) _ (found ns at i g.sound g.some h) }
+
+pub nodes_stay : (ns ms : List Flat) → IsGood ms → ((at : List Tagged) → walk ms 0 at ≡ walk ns 0 at) → (q : List Tagged) (i : ℕ) → IsNodeAt ns i q → IsNodeAt ms i q
+nodes_stay ns ms g same q i h = at_number ms q i g (same q ∙ h.walk)

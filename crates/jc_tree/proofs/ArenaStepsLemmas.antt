@@ -24,18 +24,9 @@ use Rattle.jc_tree.proofs.ArenaChangesLemmas.{read_here}
 pub node_read : (ns : List Flat) (n : ℕ) (x : Flat) → n < length ns → x ≡ get_or ns n x → flat_at ns n ≡ x
 node_read ns n x l e = get_or_default ns n blank x l ∙ sym e
 
-pub walk_step : (ns : List Flat) (at : List Tagged) (i n : ℕ) (k : Tagged) (x : Flat) (o : Option ℕ) → i < length at → k ≡ get_or at i k → x ≡ flat_at ns n → child_number k x ≡ o → walk ns n (drop i at) ≡ go_on o (λ c. walk ns c (drop (i + 1) at))
-walk_step ns at i n k x o m e f h =
-    ap (λ ks. walk ns n ks) (drop_more at i k m ∙ ap (λ t. t ∷ drop (i + 1) at) (sym e))
-    ∙ ap (λ y. go_on (child_number k y) (λ c. walk ns c (drop (i + 1) at))) (sym f)
-    ∙ ap (λ u. go_on u (λ c. walk ns c (drop (i + 1) at))) h
-
 -- where the path leads to no number, there is no place
 pub no_place_there : (ns : List Flat) (at : List Tagged) → IsGood ns → walk ns 0 at ≡ None → node_at at (content_of_arena ns) ≢ None → ⊥
 no_place_there ns at g w h = h (absent ns at g.sound g.some w)
-
-pub child_within : (ns : List Flat) (n c : ℕ) (k : Tagged) (x : Flat) → IsGood ns → x ≡ flat_at ns n → child_number k x ≡ Some c → c < length ns
-child_within ns n c k x g e h = (g.sound.inner n c k (ap (λ y. child_number k y) (sym e) ∙ h)).1
 
 -- what is read of the node that the path leads to is read of the context at the place
 pub read_at : {A : Type 0} (P : Context → A) (Q : Flat → A) (ns : List Flat) (at : List Tagged) (i : ℕ) (x : Flat) (r : A) → IsGood ns → walk ns 0 at ≡ Some i → i < length ns → x ≡ flat_at ns i → ((g : ℕ → Context) (n : Flat) → P (with_children g n) ≡ Q n) → r ≡ Q x → r ≡ P (context_at at (content_of_arena ns))

@@ -8,6 +8,7 @@ pub mod ChainedLemmas
 pub mod TreeLemmas
 pub mod LinkedLemmas
 pub mod PlacesLemmas
+pub mod NamedLemmas
 pub mod CanGoBackLemmas
 pub mod RegistersLemmas
 pub mod UndoLemmas

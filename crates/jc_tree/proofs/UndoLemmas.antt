@@ -145,9 +145,9 @@ all_parts : (P : Context → Type 0) (cs : List Context) (c : Context) → AllBy
 all_parts P [] c h = (tt, h.0)
 all_parts P (d ∷ cs) c h = let rest = all_parts P cs c h.1 in ((h.0, rest.0), rest.1)
 
--- after the latest change was taken back
-pub kept_undone : (us : List Undo) (u : Undo) (c : Context) → AllByRecursion IsWellFormedContext (earlier_contents (us ++ u ∷ []) c) → AllByRecursion IsWellFormedContext (earlier_contents us (tree_undone (u ∷ []) c)) × IsWellFormedContext (tree_undone (u ∷ []) c)
-kept_undone us u c h = all_parts IsWellFormedContext (earlier_contents us (tree_undone (u ∷ []) c)) (tree_undone (u ∷ []) c) (subst (AllByRecursion IsWellFormedContext) (contents_latest us u c) h)
+-- what holds of each content holds after the latest change was taken back
+pub kept_undone : (P : Context → Type 0) (us : List Undo) (u : Undo) (c : Context) → AllByRecursion P (earlier_contents (us ++ u ∷ []) c) → AllByRecursion P (earlier_contents us (tree_undone (u ∷ []) c)) × P (tree_undone (u ∷ []) c)
+kept_undone P us u c h = all_parts P (earlier_contents us (tree_undone (u ∷ []) c)) (tree_undone (u ∷ []) c) (subst (AllByRecursion P) (contents_latest us u c) h)
 
 -- the beginning of a history, by one content shorter
 pub shorter : (cs : List Context) (c : Context) (all : List Context) → cs ++ c ∷ [] ≡ take (suc (length cs)) all → cs ≡ take (length cs) all

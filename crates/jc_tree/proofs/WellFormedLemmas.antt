@@ -107,9 +107,9 @@ kept-with_node (k ∷ ks) y c h g = go (content k c) refl (λ b f. kept-with_nod
 pub kept-changed_at : (ks : List Tagged) (change : Change) (c : Context) → IsWellFormedContext c → node_at ks c ≢ None → IsFit change → IsWellFormedContext (changed_at ks change c)
 kept-changed_at ks change c h place f = kept-with_node ks (changed_by change (context_at ks c)) c h (kept-changed change (context_at ks c) f (kept-node ks c (context_at ks c) h (there ks c place)))
 
-pub kept-pushed : (cs : List Context) (c : Context) → AllByRecursion IsWellFormedContext cs → IsWellFormedContext c → AllByRecursion IsWellFormedContext (cs ++ c ∷ [])
-kept-pushed [] c h g = (g, tt)
-kept-pushed (d ∷ cs) c h g = (h.0, kept-pushed cs c h.1 g)
+pub kept-pushed : (P : Context → Type 0) (cs : List Context) (c : Context) → AllByRecursion P cs → P c → AllByRecursion P (cs ++ c ∷ [])
+kept-pushed P [] c h g = (g, tt)
+kept-pushed P (d ∷ cs) c h g = (h.0, kept-pushed P cs c h.1 g)
 
 -- what is lent of a kept content
 pub presence_rises : (ks : List Tagged) (k : Key) (s ids : List Id) (c : Context) → IsWellFormedContext c → node_at ks c ≢ None → presence k (context_at ks c) ≡ Some s → ids ≡ s → AreRising ids

@@ -6,6 +6,7 @@ pub mod Falls
 pub mod Change
 pub mod Undo
 pub mod Single
+pub mod Named
 pub mod Laws
 pub mod ChainedBelow
 pub mod CanGoBack

@@ -12,6 +12,8 @@ use Rattle.jc_rules.specs.ContextsAt.{node_at, with_node_at, context_at}
 use Rattle.jc_rules.specs.History.{History, timeline}
 use Rattle.jc_rules.specs.Table.{least}
 use Rattle.jc_tree.specs.declared.store.Place.{Place}
+use Rattle.jc_tree.specs.declared.store.KeysOf.{KeysOf}
+use Rattle.jc_tree.specs.declared.store.KeysOf.TheVariants.{Content, Presence, Link}
 
 -- the content, and the contents before each change since `forget_marks` was last called
 abbrev pub Tree : Type 0
@@ -61,6 +63,12 @@ has_ids (i ∷ is) = true
 -- how many of these keys have a presence set with an identifier
 abbrev pub count_present : List (Key × List Id) → ℕ
 count_present es = count_by (λ e. has_ids e.1) es
+
+-- the keys of a part of the context
+abbrev pub keys_in : KeysOf → Context → List Key
+keys_in Content c = keys c
+keys_in Presence c = keys_of (presences c)
+keys_in Link c = keys_of (links c)
 
 -- the keys under which something stands in the context: a child, a register, a presence set, or what follows in a list
 abbrev pub all_keys : Context → List Key

@@ -1,13 +1,15 @@
 //! The fast store, which the program uses: nodes in one list, each of which names its children by number.
 
-ghost use Rattle.std.specs.Prelude.{◌≡◌, ◌≢◌, ◌<◌, ◌+◌, List, None, Some, [], ◌∷◌, ◌++◌, length, IfOk, OnOk, OnErr};
+ghost use Rattle.std.specs.Prelude.{◌≡◌, ◌<◌, ◌+◌, List, None, Some, [], ◌∷◌, ◌++◌, length, IfOk, OnOk, OnErr};
 ghost use Rattle.jc_rules.specs.declared.key.Tagged.{Tagged as AnyTagged};
 ghost use Rattle.jc_rules.specs.History.{begun};
-ghost use Rattle.jc_rules.specs.Context.{empty};
-ghost use Rattle.jc_rules.specs.ContextsAt.{node_at, context_at};
+ghost use Rattle.jc_rules.specs.Context.{empty, content, with_content, new_content};
+ghost use Rattle.jc_rules.specs.Paths.{HasContext};
+ghost use Rattle.jc_rules.specs.ContextsAt.{context_at};
+ghost use Rattle.jc_tree.specs.declared.store.Place.{Place as AnyPlace};
 ghost use Rattle.jc_tree.specs.Tree.{IsChanged};
 ghost use Rattle.jc_tree.specs.Change.{IsFit, changed_by};
-ghost use Rattle.jc_tree.specs.Arena.{IsInside, content_of_arena, flat_at, former_of_flat, walk};
+ghost use Rattle.jc_tree.specs.Arena.{IsInside, content_of_arena, flat_at, former_of_flat, walk, IsNodeAt};
 ghost use Rattle.jc_tree.specs.Undo.{was_there};
 ghost use Rattle.jc_tree.specs.ArenaUndo.{arena_contents, fewer, arena_undone_once, tree_of_arena, AreOldNumbers, IsGood, AreGood, IsGood-single, AreGood-single};
 
@@ -16,7 +18,7 @@ use crate::ids::Ids;
 use crate::lists::Pairs;
 use crate::node::{Change, Former};
 use crate::small_former::{Room, SmallFormer, former_of_node, make_room};
-use crate::store::{Hint, Mark, Place, Step, Stretch, TreeStore};
+use crate::store::{Hint, KeysOf, Mark, Place, Step, Stretch, TreeStore};
 use jc_rules::{Id, Key, Next, Tagged, Value};
 use std::alloc::{AllocError, Global};
 
@@ -92,20 +94,12 @@ impl ArenaTree {
         &self.nodes[id.number()]
     }
 
-    /// The number of the node that the path leads to.
-    fn find(&self, at: &[Tagged]) -> NodeId
-        requires { node_at at.now (content_of_arena self.now.nodes.items) ≢ None }
-        ensures walk { walk self.now.nodes.items 0 at.now ≡ Some result }
-        ensures within { result < length self.now.nodes.items }
+    /// The node at the place.
+    fn named(&self, place: Place) -> &ArenaNode
+        requires { (at : List AnyTagged) × IsNodeAt self.now.nodes.items place.number at }
+        ensures { result.now ≡ flat_at self.now.nodes.items place.number }
     {
-        let mut node = NodeId::new(0);
-        for key in at {
-            match self.node(node).child(key) {
-                Some(child) => node = child,
-                None => unreachable!(),
-            }
-        }
-        node
+        self.node(NodeId::new(place.number))
     }
 
     /// Makes one change of a node to which a path leads, and keeps its undo record. The change makes no
@@ -122,7 +116,7 @@ impl ArenaTree {
             (tree_of_arena self.new.nodes.items self.new.undos.items)) }
         ensures was { IfOk result (λ was.
             was ≡ was_there (former_of_flat change (flat_at self.old.nodes.items node))) }
-        ensures numbers { (at : List AnyTagged) → walk self.new.nodes.items 0 at ≡ walk self.old.nodes.items 0 at }
+        ensures names_stay { (p : AnyPlace) (at : List AnyTagged) → IsNodeAt self.old.nodes.items p.number at → IsNodeAt self.new.nodes.items p.number at }
         ensures err { OnErr result (tree_of_arena self.new.nodes.items self.new.undos.items
             ≡ tree_of_arena self.old.nodes.items self.old.undos.items) }
     {
@@ -137,20 +131,46 @@ impl ArenaTree {
     }
 
     /// Makes one change at the place that makes no node. After a refusal all is as it was.
-    fn change(&mut self, at: &[Tagged], change: Change) -> Result<(), AllocError>
-        requires there { node_at at.now (content_of_arena self.old.nodes.items) ≢ None }
+    fn change(&mut self, place: Place, change: Change) -> Result<(), AllocError>
+        requires there { (at : List AnyTagged) × IsNodeAt self.old.nodes.items place.number at }
         requires inside { IsInside change }
         requires fit { IsFit change }
-        ensures ok { OnOk result (IsChanged at.now
-            (changed_by change (context_at at.now (content_of_arena self.old.nodes.items)))
+        ensures ok { OnOk result ((at : List AnyTagged) → IsNodeAt self.old.nodes.items place.number at → IsChanged at
+            (changed_by change (context_at at (content_of_arena self.old.nodes.items)))
             (tree_of_arena self.old.nodes.items self.old.undos.items)
             (tree_of_arena self.new.nodes.items self.new.undos.items)) }
-        ensures numbers { (q : List AnyTagged) → walk self.new.nodes.items 0 q ≡ walk self.old.nodes.items 0 q }
+        ensures names_stay { (p : AnyPlace) (at : List AnyTagged) → IsNodeAt self.old.nodes.items p.number at → IsNodeAt self.new.nodes.items p.number at }
         ensures err { OnErr result (tree_of_arena self.new.nodes.items self.new.undos.items
             ≡ tree_of_arena self.old.nodes.items self.old.undos.items) }
     {
-        let node = self.find(at);
-        self.change_node(node, change)?;
+        self.change_node(NodeId::new(place.number), change)?;
+        Ok(())
+    }
+
+    /// Makes a new map or list under the tagged key at the place. After a refusal all is as it was.
+    fn make_node(&mut self, place: Place, key: &Tagged) -> Result<(), AllocError>
+        requires absent { (at : List AnyTagged) × IsNodeAt self.old.nodes.items place.number at
+            × (content key.now (context_at at (content_of_arena self.old.nodes.items)) ≡ None) }
+        requires context { HasContext key.now }
+        ensures ok { (at : List AnyTagged) → IsNodeAt self.old.nodes.items place.number at → OnOk result (IsChanged at
+            (with_content key.now (new_content key.now) (context_at at (content_of_arena self.old.nodes.items)))
+            (tree_of_arena self.old.nodes.items self.old.undos.items)
+            (tree_of_arena self.new.nodes.items self.new.undos.items)) }
+        ensures names_stay { (p : AnyPlace) (at : List AnyTagged) → IsNodeAt self.old.nodes.items p.number at → IsNodeAt self.new.nodes.items p.number at }
+        ensures err { OnErr result (tree_of_arena self.new.nodes.items self.new.undos.items
+            ≡ tree_of_arena self.old.nodes.items self.old.undos.items) }
+    {
+        let number = self.nodes.len();
+        self.undos.reserve(1)?;
+        self.nodes.reserve(1)?;
+        let name = key.copy()?;
+        let copy = key.copy()?;
+        let child = ArenaNode::of_child(self.alloc, key)?;
+        self.nodes[place.number].name_child(copy, NodeId::new(number))?;
+        self.nodes.push(child).unwrap();
+        let node = NodeId::new(place.number);
+        let former = former_of_node(name);
+        self.undos.push(Undo { node, former }).unwrap();
         Ok(())
     }
 
@@ -171,183 +191,93 @@ impl ArenaTree {
 impl TreeStore for ArenaTree {
     ghost tree = { λ s. tree_of_arena s.nodes.items s.undos.items };
 
-    ghost names = { λ s place at. walk s.nodes.items 0 at ≡ Some place.number };
+    ghost names = { λ s place at. IsNodeAt s.nodes.items place.number at };
 
     ghost kept = { λ s. s.good.kept };
 
-    fn has(&self, at: &[Tagged], key: &Tagged) -> bool {
-        self.node(self.find(at)).has(key)
-    }
+    ghost one = { λ s p at other named too. named.only other too.walk };
 
-    fn make_child(&mut self, at: &[Tagged], key: &Tagged) -> Result<(), AllocError> {
-        match key {
-            Tagged::RegT(_) => self.change(at, Change::Child(key.copy()?)),
-            _ => {
-                let place = Place {
-                    number: self.find(at).number(),
-                };
-                self.make_below(place, at, key)?;
-                Ok(())
-            }
-        }
-    }
-
-    fn presence(&self, at: &[Tagged], key: &Key) -> Option<&[Id]> {
-        self.node(self.find(at)).presence(key)
-    }
-
-    fn set_presence(&mut self, at: &[Tagged], key: &Key, ids: &[Id]) -> Result<(), AllocError> {
-        let ids = Ids::new(ids.to_vec(self.alloc)?);
-        self.change(at, Change::Presence(key.copy()?, ids))
-    }
-
-    fn add_presence(&mut self, at: &[Tagged], key: &Key, id: Id) -> Result<bool, AllocError> {
-        let place = Place {
-            number: self.find(at).number(),
-        };
-        self.add_presence_at(place, at, key, id)
-    }
-
-    fn next(&self, at: &[Tagged], key: &Key) -> Option<Next> {
-        self.node(self.find(at)).next(key)
-    }
-
-    fn set_next(&mut self, at: &[Tagged], key: &Key, next: Next) -> Result<(), AllocError> {
-        self.change(at, Change::Link(key.copy()?, next))
-    }
-
-    fn register(&self, at: &[Tagged], key: &Key) -> Option<&[(Id, Value)]> {
-        self.node(self.find(at)).register(key)
-    }
-
-    fn set_register(
-        &mut self,
-        at: &[Tagged],
-        key: &Key,
-        pairs: Vec<(Id, Value)>,
-    ) -> Result<(), AllocError> {
-        self.change(at, Change::Register(key.copy()?, Pairs::new(pairs)))
-    }
-
-    fn put_value(
-        &mut self,
-        at: &[Tagged],
-        key: &Key,
-        id: Id,
-        value: Value,
-    ) -> Result<bool, AllocError> {
-        let node = self.find(at);
-        self.change_node(node, Change::PutValue(key.copy()?, id, value))
-    }
-
-    fn key_after(&self, at: &[Tagged], above: Option<&Key>) -> Option<&Key> {
-        self.node(self.find(at)).key_after(above)
-    }
-
-    fn presence_after(&self, at: &[Tagged], above: Option<&Key>) -> Option<&Key> {
-        self.node(self.find(at)).presence_after(above)
-    }
-
-    fn count_present(&self, at: &[Tagged]) -> usize {
-        self.node(self.find(at)).count_present()
-    }
-
-    fn link_after(&self, at: &[Tagged], above: Option<&Key>) -> Option<&Key> {
-        self.node(self.find(at)).link_after(above)
-    }
+    ghost there = { λ s p at named. named.there };
 
     fn root(&self) -> Place {
         Place { number: 0 }
     }
 
-    fn below(&self, place: Place, at: &[Tagged], key: &Tagged) -> Option<Place> {
-        let node = NodeId::new(place.number);
-        let child = self.node(node).child(key)?;
+    fn below(&self, place: Place, key: &Tagged) -> Option<Place> {
+        let child = self.named(place).child(key)?;
         Some(Place {
             number: child.number(),
         })
     }
 
-    fn make_below(
-        &mut self,
-        place: Place,
-        at: &[Tagged],
-        key: &Tagged,
-    ) -> Result<Place, AllocError> {
-        let number = self.nodes.len();
-        self.undos.reserve(1)?;
-        self.nodes.reserve(1)?;
-        let name = key.copy()?;
-        let copy = key.copy()?;
-        let child = ArenaNode::of_child(self.alloc, key)?;
-        self.nodes[place.number].name_child(copy, NodeId::new(number))?;
-        self.nodes.push(child).unwrap();
-        let node = NodeId::new(place.number);
-        let former = former_of_node(name);
-        self.undos.push(Undo { node, former }).unwrap();
-        Ok(Place { number })
+    fn map_by(&self, place: Place, key: &Key, hint: Hint) -> Option<Place> {
+        let child = self.named(place).map_near(key, hint)?;
+        Some(Place {
+            number: child.number(),
+        })
     }
 
-    fn add_presence_at(
-        &mut self,
-        place: Place,
-        at: &[Tagged],
-        key: &Key,
-        id: Id,
-    ) -> Result<bool, AllocError> {
+    fn list_by(&self, place: Place, key: &Key, hint: Hint) -> Option<Place> {
+        let child = self.named(place).list_near(key, hint)?;
+        Some(Place {
+            number: child.number(),
+        })
+    }
+
+    fn make_child_at(&mut self, place: Place, key: &Tagged) -> Result<(), AllocError> {
+        match key {
+            Tagged::RegT(_) => self.change(place, Change::Child(key.copy()?)),
+            _ => self.make_node(place, key),
+        }
+    }
+
+    fn presence_by(&self, place: Place, key: &Key, hint: Hint) -> Option<&[Id]> {
+        self.named(place).presence_near(key, hint)
+    }
+
+    fn set_presence_at(&mut self, place: Place, key: &Key, ids: &[Id]) -> Result<(), AllocError> {
+        let ids = Ids::new(ids.to_vec(self.alloc)?);
+        self.change(place, Change::Presence(key.copy()?, ids))
+    }
+
+    fn add_presence_at(&mut self, place: Place, key: &Key, id: Id) -> Result<bool, AllocError> {
         let node = NodeId::new(place.number);
         self.change_node(node, Change::AddId(key.copy()?, id))
     }
 
+    fn count_present_at(&self, place: Place) -> usize {
+        self.named(place).count_present()
+    }
+
     #[inline(always)]
-    fn step_by(&self, place: Place, at: &[Tagged], key: &Key, hint: Hint) -> Step {
-        self.node(NodeId::new(place.number)).step(key, hint)
+    fn step_by(&self, place: Place, key: &Key, hint: Hint) -> Step {
+        self.named(place).step(key, hint)
     }
 
-    fn stretch_by(
-        &self,
-        place: Place,
-        at: &[Tagged],
-        key: &Key,
-        hint: Hint,
-        most: usize,
-    ) -> Option<Stretch> {
-        self.node(NodeId::new(place.number))
-            .stretch(key, hint, most)
+    fn stretch_by(&self, place: Place, key: &Key, hint: Hint, most: usize) -> Option<Stretch> {
+        self.named(place).stretch(key, hint, most)
     }
 
-    fn set_next_at(
-        &mut self,
-        place: Place,
-        at: &[Tagged],
-        key: &Key,
-        next: Next,
-    ) -> Result<(), AllocError> {
-        let node = NodeId::new(place.number);
-        self.change_node(node, Change::Link(key.copy()?, next))?;
-        Ok(())
+    fn set_next_at(&mut self, place: Place, key: &Key, next: Next) -> Result<(), AllocError> {
+        self.change(place, Change::Link(key.copy()?, next))
     }
 
-    fn register_at(&self, place: Place, at: &[Tagged], key: &Key) -> Option<&[(Id, Value)]> {
-        self.node(NodeId::new(place.number)).register(key)
+    fn register_by(&self, place: Place, key: &Key, hint: Hint) -> Option<&[(Id, Value)]> {
+        self.named(place).register_near(key, hint)
     }
 
     fn set_register_at(
         &mut self,
         place: Place,
-        at: &[Tagged],
         key: &Key,
         pairs: Vec<(Id, Value)>,
     ) -> Result<(), AllocError> {
-        let node = NodeId::new(place.number);
-        self.change_node(node, Change::Register(key.copy()?, Pairs::new(pairs)))?;
-        Ok(())
+        self.change(place, Change::Register(key.copy()?, Pairs::new(pairs)))
     }
 
     fn put_value_at(
         &mut self,
         place: Place,
-        at: &[Tagged],
         key: &Key,
         id: Id,
         value: Value,
@@ -356,68 +286,17 @@ impl TreeStore for ArenaTree {
         self.change_node(node, Change::PutValue(key.copy()?, id, value))
     }
 
-    fn set_presence_at(
-        &mut self,
-        place: Place,
-        at: &[Tagged],
-        key: &Key,
-        ids: &[Id],
-    ) -> Result<(), AllocError> {
-        let ids = Ids::new(ids.to_vec(self.alloc)?);
-        let node = NodeId::new(place.number);
-        self.change_node(node, Change::Presence(key.copy()?, ids))?;
-        Ok(())
+    fn after_at(&self, place: Place, of: KeysOf, above: Option<&Key>) -> Option<&Key> {
+        let node = self.named(place);
+        match of {
+            KeysOf::Content => node.key_after(above),
+            KeysOf::Presence => node.presence_after(above),
+            KeysOf::Link => node.link_after(above),
+        }
     }
 
-    fn key_after_at(&self, place: Place, at: &[Tagged], above: Option<&Key>) -> Option<&Key> {
-        self.node(NodeId::new(place.number)).key_after(above)
-    }
-
-    fn presence_after_at(&self, place: Place, at: &[Tagged], above: Option<&Key>) -> Option<&Key> {
-        self.node(NodeId::new(place.number)).presence_after(above)
-    }
-
-    fn link_after_at(&self, place: Place, at: &[Tagged], above: Option<&Key>) -> Option<&Key> {
-        self.node(NodeId::new(place.number)).link_after(above)
-    }
-
-    fn keys_at(
-        &self,
-        alloc: Global,
-        place: Place,
-        at: &[Tagged],
-    ) -> Result<Vec<(&Key, Hint)>, AllocError> {
-        self.node(NodeId::new(place.number)).keys_in_order(alloc)
-    }
-
-    fn map_by(&self, place: Place, at: &[Tagged], key: &Key, hint: Hint) -> Option<Place> {
-        let child = self.node(NodeId::new(place.number)).map_near(key, hint)?;
-        Some(Place {
-            number: child.number(),
-        })
-    }
-
-    fn list_by(&self, place: Place, at: &[Tagged], key: &Key, hint: Hint) -> Option<Place> {
-        let child = self.node(NodeId::new(place.number)).list_near(key, hint)?;
-        Some(Place {
-            number: child.number(),
-        })
-    }
-
-    fn register_by(
-        &self,
-        place: Place,
-        at: &[Tagged],
-        key: &Key,
-        hint: Hint,
-    ) -> Option<&[(Id, Value)]> {
-        self.node(NodeId::new(place.number))
-            .register_near(key, hint)
-    }
-
-    fn presence_by(&self, place: Place, at: &[Tagged], key: &Key, hint: Hint) -> Option<&[Id]> {
-        self.node(NodeId::new(place.number))
-            .presence_near(key, hint)
+    fn keys_at(&self, alloc: Global, place: Place) -> Result<Vec<(&Key, Hint)>, AllocError> {
+        self.named(place).keys_in_order(alloc)
     }
 
     fn mark(&self) -> Mark {

@@ -14,7 +14,7 @@ ghost use Rattle.jc_rules.specs.declared.key.Key.TheVariants.{Elem};
 ghost use Rattle.jc_rules.specs.declared.key.Next.{Next as AnyNext};
 ghost use Rattle.jc_rules.specs.declared.key.Next.TheVariants.{Elem as To};
 ghost use Rattle.jc_tree.specs.Tables.{AreColumnsWithin, IsBare, IsTrimmed, flat_of};
-ghost use Rattle.jc_tree.specs.Arena.{blank, new_flat, flat_keys, child_number, is_in, with_child_number, IsInside, changed_flat, former_of_flat, restored_flat};
+ghost use Rattle.jc_tree.specs.Arena.{blank, new_flat, flat_keys, child_number, with_child_number, IsInside, changed_flat, former_of_flat, restored_flat};
 
 use crate::blocks::{Blocks, MOST, lesser_id};
 use crate::columns::{cut, value_at};
@@ -408,17 +408,6 @@ impl ArenaNode {
         Ok(node)
     }
 
-    /// Whether the tagged key is there.
-    pub fn has(&self, key: &Tagged) -> bool
-        ensures { result ≡ is_in key.now self.now }
-    {
-        match key {
-            Tagged::MapT(key) => value_in(&self.keys, self.maps.as_slice(), key).is_some(),
-            Tagged::ListT(key) => value_in(&self.keys, self.lists.as_slice(), key).is_some(),
-            Tagged::RegT(key) => value_in(&self.keys, self.registers.as_slice(), key).is_some(),
-        }
-    }
-
     /// The number of the child under the tagged key.
     pub fn child(&self, key: &Tagged) -> Option<NodeId>
         ensures { result ≡ child_number key.now self.now }
@@ -428,27 +417,6 @@ impl ArenaNode {
             Tagged::ListT(key) => value_in(&self.keys, self.lists.as_slice(), key).copied(),
             Tagged::RegT(_) => None,
         }
-    }
-
-    /// The presence set of the key.
-    pub fn presence(&self, key: &Key) -> Option<&[Id]>
-        ensures { option_copied result ≡ find key_cmp key.now self.now.presences }
-    {
-        Some(value_in(&self.keys, self.presences.as_slice(), key)?.as_slice())
-    }
-
-    /// What follows the key.
-    pub fn next(&self, key: &Key) -> Option<Next>
-        ensures { result ≡ find key_cmp key.now self.now.links }
-    {
-        Some(value_in(&self.keys, self.links.as_slice(), key)?.next())
-    }
-
-    /// The values of the key's register.
-    pub fn register(&self, key: &Key) -> Option<&[(Id, Value)]>
-        ensures { option_copied result ≡ find key_cmp key.now self.now.registers }
-    {
-        Some(value_in(&self.keys, self.registers.as_slice(), key)?.as_slice())
     }
 
     /// All keys in their order, each with a hint for it. Nothing may stand under some of them.

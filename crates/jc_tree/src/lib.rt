@@ -20,4 +20,6 @@ mod tables;
 
 pub use arena::ArenaTree;
 pub use plain::PlainTree;
-pub use store::{Hint, Mark, Place, Step, Stretch, TreeStore, is_place, place_of};
+pub use store::{
+    ANYWHERE, Hint, KeysOf, Mark, Place, Step, Stretch, TreeStore, is_place, place_of,
+};

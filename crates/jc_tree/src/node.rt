@@ -15,7 +15,7 @@ ghost use Rattle.jc_tree.specs.Undo.{was_there, former_of, former_of_id, restore
 use crate::entries::{key_above, place_of, put_value, restore_value, value_of};
 use crate::ids::{Ids, add_to, count_present, take_from};
 use crate::lists::{Pairs, put_to, restore_from};
-use crate::store::Hint;
+use crate::store::{ANYWHERE, Hint};
 use jc_rules::{Id, Key, Next, Tagged, Value, compare_keys};
 use std::alloc::{AllocError, Global};
 use std::marker::Model;
@@ -112,17 +112,6 @@ impl Node {
         let mut node = Node::new(alloc);
         put_value(&mut node.links, Key::Head, Next::Tail)?;
         Ok(node)
-    }
-
-    /// Whether the tagged key is there.
-    pub fn has(&self, key: &Tagged) -> bool
-        ensures { result ≡ is_some (content key.now self.now) }
-    {
-        match key {
-            Tagged::MapT(key) => value_of(self.maps.as_slice(), key).is_some(),
-            Tagged::ListT(key) => value_of(self.lists.as_slice(), key).is_some(),
-            Tagged::RegT(key) => value_of(self.registers.as_slice(), key).is_some(),
-        }
     }
 
     /// Whether a map is under the key.
@@ -235,7 +224,7 @@ impl Node {
         let mut lent = Vec::new(alloc);
         let mut last = None;
         while let Some(key) = self.any_after(last) {
-            lent.push((key, Hint { number: 0 }))?;
+            lent.push((key, ANYWHERE))?;
             last = Some(key);
         }
         Ok(lent)

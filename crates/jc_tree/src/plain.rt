@@ -1,20 +1,24 @@
 //! The plain store: nested lists that are sorted by key. Tests compare the fast store with it.
 
-ghost use Rattle.std.specs.Prelude.{◌≡◌, ◌≢◌, ◌<◌, ◌+◌, None, [], ◌∷◌, ◌++◌, length, OnOk, OnErr};
+ghost use Rattle.std.specs.Prelude.{◌≡◌, ◌≢◌, ℕ, ◌<◌, ◌+◌, ◌↔◌, List, None, Some, [], ◌∷◌, ◌++◌, length, IsTrue, OnOk, OnErr};
 ghost use Rattle.std.specs.List.{AllByRecursion};
 ghost use Rattle.jc_rules.specs.History.{begun};
 ghost use Rattle.jc_rules.specs.Context.{empty};
-ghost use Rattle.jc_rules.specs.ContextsAt.{node_at, context_at};
+ghost use Rattle.jc_rules.specs.ContextsAt.{context_at};
 ghost use Rattle.jc_rules.specs.WellFormed.{IsWellFormedContext};
+ghost use Rattle.jc_tree.specs.declared.store.Place.{Place as AnyPlace};
 ghost use Rattle.jc_tree.specs.Tree.{Tree};
 ghost use Rattle.jc_tree.specs.Change.{IsFit, IsNew, changed_at};
+ghost use Rattle.jc_tree.specs.Arena.{IsInside};
 ghost use Rattle.jc_tree.specs.Undo.{earlier_contents};
 ghost use Rattle.jc_tree.specs.Single.{IsKept-single, AreAllKept-single};
+ghost use Rattle.jc_tree.specs.Named.{path_at, IsPlaceOf, IsNamed, AreNamed, AreAllNamed, AreNamed-single, AreAllNamed-single, child_key, same_path};
+ghost use Rattle.jc_rules.specs.declared.key.Tagged.{Tagged as AnyTagged};
 
 use crate::ids::Ids;
 use crate::lists::{Pairs, copy_place};
 use crate::node::{Change, Former, Node};
-use crate::store::{Hint, Mark, Place, Step, Stretch, TreeStore};
+use crate::store::{ANYWHERE, Hint, KeysOf, Mark, Place, Step, Stretch, TreeStore};
 use jc_rules::{Id, Key, Next, Tagged, Value};
 use std::alloc::{AllocError, Global};
 
@@ -25,15 +29,41 @@ pub struct Undo {
     former: Former,
 }
 
+/// Whether the tagged key is that of the map under the key, or of the list.
+fn is_tagged(tagged: &Tagged, key: &Key, is_list: bool) -> bool
+    ensures { IsTrue result ↔ tagged.now ≡ child_key is_list key.now }
+{
+    match tagged {
+        Tagged::MapT(own) => !is_list && own == key,
+        Tagged::ListT(own) => is_list && own == key,
+        Tagged::RegT(_) => false,
+    }
+}
+
+/// Whether the path is that of the map under the key in the context at the other path, or of the list.
+fn is_child(path: &[Tagged], at: &[Tagged], key: &Key, is_list: bool) -> bool
+    ensures { IsTrue result ↔ path.now ≡ at.now ++ child_key is_list key.now ∷ [] }
+{
+    match path.split_last() {
+        Some((last, front)) => front == at && is_tagged(last, key, is_list),
+        None => false,
+    }
+}
+
 /// A tree of nested sorted lists, with the undo records of its changes, the latest last.
 #[derive(Drop)]
 pub struct PlainTree {
     alloc: Global,
     root: Node,
     undos: Vec<Undo>,
+    /// The paths of the contexts below the root, also of those that are gone. A place is one more than the index of its
+    /// path.
+    paths: Vec<Vec<Tagged>>,
     ghost root_kept: { IsWellFormedContext root } by { IsKept-single root },
     ghost earlier_kept: { AllByRecursion IsWellFormedContext
         (earlier_contents undos.items root) } by { AreAllKept-single (earlier_contents undos.items root) },
+    ghost root_named: { AreNamed paths.items root } by { AreNamed-single paths.items root },
+    ghost earlier_named: { AreAllNamed paths.items (earlier_contents undos.items root) } by { AreAllNamed-single paths.items (earlier_contents undos.items root) },
 }
 
 impl PlainTree {
@@ -45,24 +75,96 @@ impl PlainTree {
             alloc,
             root: Node::new(alloc),
             undos: Vec::new(alloc),
+            paths: Vec::new(alloc),
         }
     }
 
-    /// Makes one change, and keeps its undo record. After a refusal all is as it was.
-    fn change(&mut self, at: &[Tagged], change: Change) -> Result<(), AllocError>
-        requires there { node_at at.now self.old.root ≢ None }
-        requires absent { IsNew change (context_at at.now self.old.root) }
+    /// The path that the place names.
+    fn path(&self, place: Place) -> &[Tagged]
+        requires { path_at self.now.paths.items place.number ≢ None }
+        ensures { path_at self.now.paths.items place.number ≡ Some result.now }
+    {
+        if place.number == 0 {
+            return &[];
+        }
+        self.paths[place.number - 1].as_slice()
+    }
+
+    /// The place of the map under the key in the context at the path, or of the list.
+    fn place_below(&self, at: &[Tagged], key: &Key, is_list: bool) -> Place
+        requires { IsNamed self.now.paths.items (at.now ++ child_key is_list key.now ∷ []) }
+        ensures { path_at self.now.paths.items result.number ≡ Some (at.now ++ child_key is_list key.now ∷ []) }
+    {
+        for (index, path) in self.paths.iter().enumerate() {
+            if is_child(path.as_slice(), at, key, is_list) {
+                return Place { number: index + 1 };
+            }
+        }
+        unreachable!()
+    }
+
+    /// The context at the place.
+    fn node(&self, place: Place) -> &Node
+        requires { (at : List AnyTagged) × IsPlaceOf self.now.paths.items self.now.root place.number at }
+        ensures { (at : List AnyTagged) → IsPlaceOf self.now.paths.items self.now.root place.number at
+            → result.now ≡ context_at at self.now.root }
+    {
+        self.root.node_at(self.path(place))
+    }
+
+    /// Makes one change at the place, and keeps its undo record. After a refusal all is as it was.
+    fn change(&mut self, place: Place, change: Change) -> Result<(), AllocError>
+        requires named { (at : List AnyTagged) × IsPlaceOf self.old.paths.items self.old.root place.number at
+            × IsNew change (context_at at self.old.root)
+            × AreNamed self.old.paths.items (changed_at at change self.old.root) }
         requires fit { IsFit change }
-        ensures root { OnOk result (self.new.root ≡ changed_at at.now change self.old.root) }
+        ensures root { (at : List AnyTagged) → IsPlaceOf self.old.paths.items self.old.root place.number at
+            → OnOk result (self.new.root ≡ changed_at at change self.old.root) }
         ensures earlier { OnOk result (earlier_contents self.new.undos.items self.new.root
             ≡ earlier_contents self.old.undos.items self.old.root ++ self.old.root ∷ []) }
+        ensures names_stay { (p : AnyPlace) (at : List AnyTagged) → IsPlaceOf self.old.paths.items self.old.root p.number at
+            → IsPlaceOf self.new.paths.items self.new.root p.number at }
         ensures same_root { OnErr result (self.new.root ≡ self.old.root) }
         ensures same_undos { OnErr result (self.new.undos.items ≡ self.old.undos.items) }
     {
-        let place = copy_place(self.alloc, at)?;
+        let at = copy_place(self.alloc, self.path(place))?;
         self.undos.reserve(1)?;
-        let former = self.root.change_at(at, change, self.alloc)?;
-        self.undos.push(Undo { at: place, former }).unwrap();
+        let former = self.root.change_at(at.as_slice(), change, self.alloc)?;
+        self.undos.push(Undo { at, former }).unwrap();
+        Ok(())
+    }
+
+    /// Makes one change at the place that makes no context. After a refusal all is as it was.
+    fn set(&mut self, place: Place, change: Change) -> Result<(), AllocError>
+        requires there { (at : List AnyTagged) × IsPlaceOf self.old.paths.items self.old.root place.number at
+            × IsNew change (context_at at self.old.root) }
+        requires inside { IsInside change }
+        requires fit { IsFit change }
+        ensures root { (at : List AnyTagged) → IsPlaceOf self.old.paths.items self.old.root place.number at
+            → OnOk result (self.new.root ≡ changed_at at change self.old.root) }
+        ensures earlier { OnOk result (earlier_contents self.new.undos.items self.new.root
+            ≡ earlier_contents self.old.undos.items self.old.root ++ self.old.root ∷ []) }
+        ensures names_stay { (p : AnyPlace) (at : List AnyTagged) → IsPlaceOf self.old.paths.items self.old.root p.number at
+            → IsPlaceOf self.new.paths.items self.new.root p.number at }
+        ensures same_root { OnErr result (self.new.root ≡ self.old.root) }
+        ensures same_undos { OnErr result (self.new.undos.items ≡ self.old.undos.items) }
+    {
+        self.change(place, change)
+    }
+
+    /// Gives a place to the path of what comes under the tagged key.
+    fn name_child(&mut self, place: Place, key: &Tagged) -> Result<(), AllocError>
+        requires { path_at self.old.paths.items place.number ≢ None }
+        ensures named { OnOk result ((at : List AnyTagged) → path_at self.old.paths.items place.number ≡ Some at
+            → IsNamed self.new.paths.items (at ++ key.now ∷ [])) }
+        ensures stay { (n : ℕ) (at : List AnyTagged) → path_at self.old.paths.items n ≡ Some at
+            → path_at self.new.paths.items n ≡ Some at }
+        ensures root { self.new.root ≡ self.old.root }
+        ensures undos { self.new.undos.items ≡ self.old.undos.items }
+    {
+        let mut path = copy_place(self.alloc, self.path(place))?;
+        path.push(key.copy()?)?;
+        self.paths.push(path)?;
         Ok(())
     }
 
@@ -72,6 +174,7 @@ impl PlainTree {
         ensures undos { length self.new.undos.items + 1 ≡ length self.old.undos.items }
         ensures history { earlier_contents self.new.undos.items self.new.root ++ self.new.root ∷ []
             ≡ earlier_contents self.old.undos.items self.old.root }
+        ensures paths { self.new.paths.items ≡ self.old.paths.items }
     {
         if let Some(Undo { at, former }) = self.undos.pop() {
             self.root.restore_at(at.as_slice(), former);
@@ -82,116 +185,71 @@ impl PlainTree {
 impl TreeStore for PlainTree {
     ghost tree = { λ s. record { now = s.root; earlier = earlier_contents s.undos.items s.root } };
 
-    ghost names = { λ s place at. Unit {0} };
+    ghost names = { λ s place at. IsPlaceOf s.paths.items s.root place.number at };
 
     ghost kept = { λ s. s.root_kept };
 
-    fn has(&self, at: &[Tagged], key: &Tagged) -> bool {
-        self.root.node_at(at).has(key)
-    }
+    ghost one = { λ s p at other named too. same_path s.paths.items p.number at other named.named too.named };
 
-    fn make_child(&mut self, at: &[Tagged], key: &Tagged) -> Result<(), AllocError> {
-        self.change(at, Change::Child(key.copy()?))
-    }
-
-    fn presence(&self, at: &[Tagged], key: &Key) -> Option<&[Id]> {
-        self.root.node_at(at).presence(key)
-    }
-
-    fn set_presence(&mut self, at: &[Tagged], key: &Key, ids: &[Id]) -> Result<(), AllocError> {
-        let ids = Ids::new(ids.to_vec(self.alloc)?);
-        self.change(at, Change::Presence(key.copy()?, ids))
-    }
-
-    fn add_presence(&mut self, at: &[Tagged], key: &Key, id: Id) -> Result<bool, AllocError> {
-        let was = self.root.node_at(at).presence(key).is_some();
-        self.change(at, Change::AddId(key.copy()?, id))?;
-        Ok(was)
-    }
-
-    fn next(&self, at: &[Tagged], key: &Key) -> Option<Next> {
-        self.root.node_at(at).next(key)
-    }
-
-    fn set_next(&mut self, at: &[Tagged], key: &Key, next: Next) -> Result<(), AllocError> {
-        self.change(at, Change::Link(key.copy()?, next))
-    }
-
-    fn register(&self, at: &[Tagged], key: &Key) -> Option<&[(Id, Value)]> {
-        self.root.node_at(at).register(key)
-    }
-
-    fn set_register(
-        &mut self,
-        at: &[Tagged],
-        key: &Key,
-        pairs: Vec<(Id, Value)>,
-    ) -> Result<(), AllocError> {
-        self.change(at, Change::Register(key.copy()?, Pairs::new(pairs)))
-    }
-
-    fn put_value(
-        &mut self,
-        at: &[Tagged],
-        key: &Key,
-        id: Id,
-        value: Value,
-    ) -> Result<bool, AllocError> {
-        let was = self.root.node_at(at).register(key).is_some();
-        self.change(at, Change::PutValue(key.copy()?, id, value))?;
-        Ok(was)
-    }
-
-    fn key_after(&self, at: &[Tagged], above: Option<&Key>) -> Option<&Key> {
-        self.root.node_at(at).key_after(above)
-    }
-
-    fn presence_after(&self, at: &[Tagged], above: Option<&Key>) -> Option<&Key> {
-        self.root.node_at(at).presence_after(above)
-    }
-
-    fn count_present(&self, at: &[Tagged]) -> usize {
-        self.root.node_at(at).count_present()
-    }
-
-    fn link_after(&self, at: &[Tagged], above: Option<&Key>) -> Option<&Key> {
-        self.root.node_at(at).link_after(above)
-    }
+    ghost there = { λ s p at named. named.there };
 
     fn root(&self) -> Place {
         Place { number: 0 }
     }
 
-    fn below(&self, place: Place, at: &[Tagged], key: &Tagged) -> Option<Place> {
+    fn below(&self, place: Place, key: &Tagged) -> Option<Place> {
         match key {
+            Tagged::MapT(key) => self.map_by(place, key, ANYWHERE),
+            Tagged::ListT(key) => self.list_by(place, key, ANYWHERE),
             Tagged::RegT(_) => None,
-            _ if self.has(at, key) => Some(Place { number: 0 }),
-            _ => None,
         }
     }
 
-    fn make_below(
-        &mut self,
-        place: Place,
-        at: &[Tagged],
-        key: &Tagged,
-    ) -> Result<Place, AllocError> {
-        self.make_child(at, key)?;
-        Ok(Place { number: 0 })
+    fn map_by(&self, place: Place, key: &Key, hint: Hint) -> Option<Place> {
+        if self.node(place).has_map(key) {
+            Some(self.place_below(self.path(place), key, false))
+        } else {
+            None
+        }
     }
 
-    fn add_presence_at(
-        &mut self,
-        place: Place,
-        at: &[Tagged],
-        key: &Key,
-        id: Id,
-    ) -> Result<bool, AllocError> {
-        self.add_presence(at, key, id)
+    fn list_by(&self, place: Place, key: &Key, hint: Hint) -> Option<Place> {
+        if self.node(place).has_list(key) {
+            Some(self.place_below(self.path(place), key, true))
+        } else {
+            None
+        }
     }
 
-    fn step_by(&self, place: Place, at: &[Tagged], key: &Key, hint: Hint) -> Step {
-        let node = self.root.node_at(at);
+    fn make_child_at(&mut self, place: Place, key: &Tagged) -> Result<(), AllocError> {
+        if let Tagged::RegT(_) = key {
+            return self.set(place, Change::Child(key.copy()?));
+        }
+        self.name_child(place, key)?;
+        self.change(place, Change::Child(key.copy()?))
+    }
+
+    fn presence_by(&self, place: Place, key: &Key, hint: Hint) -> Option<&[Id]> {
+        self.node(place).presence(key)
+    }
+
+    fn set_presence_at(&mut self, place: Place, key: &Key, ids: &[Id]) -> Result<(), AllocError> {
+        let ids = Ids::new(ids.to_vec(self.alloc)?);
+        self.set(place, Change::Presence(key.copy()?, ids))
+    }
+
+    fn add_presence_at(&mut self, place: Place, key: &Key, id: Id) -> Result<bool, AllocError> {
+        let was = self.node(place).presence(key).is_some();
+        self.set(place, Change::AddId(key.copy()?, id))?;
+        Ok(was)
+    }
+
+    fn count_present_at(&self, place: Place) -> usize {
+        self.node(place).count_present()
+    }
+
+    fn step_by(&self, place: Place, key: &Key, hint: Hint) -> Step {
+        let node = self.node(place);
         Step {
             next: node.next(key),
             present: node.presence(key).is_some_and(|ids| !ids.is_empty()),
@@ -199,111 +257,50 @@ impl TreeStore for PlainTree {
         }
     }
 
-    fn stretch_by(
-        &self,
-        place: Place,
-        at: &[Tagged],
-        key: &Key,
-        hint: Hint,
-        most: usize,
-    ) -> Option<Stretch> {
+    fn stretch_by(&self, place: Place, key: &Key, hint: Hint, most: usize) -> Option<Stretch> {
         None
     }
 
-    fn set_next_at(
-        &mut self,
-        place: Place,
-        at: &[Tagged],
-        key: &Key,
-        next: Next,
-    ) -> Result<(), AllocError> {
-        self.set_next(at, key, next)
+    fn set_next_at(&mut self, place: Place, key: &Key, next: Next) -> Result<(), AllocError> {
+        self.set(place, Change::Link(key.copy()?, next))
     }
 
-    fn register_at(&self, place: Place, at: &[Tagged], key: &Key) -> Option<&[(Id, Value)]> {
-        self.register(at, key)
+    fn register_by(&self, place: Place, key: &Key, hint: Hint) -> Option<&[(Id, Value)]> {
+        self.node(place).register(key)
     }
 
     fn set_register_at(
         &mut self,
         place: Place,
-        at: &[Tagged],
         key: &Key,
         pairs: Vec<(Id, Value)>,
     ) -> Result<(), AllocError> {
-        self.set_register(at, key, pairs)
+        self.set(place, Change::Register(key.copy()?, Pairs::new(pairs)))
     }
 
     fn put_value_at(
         &mut self,
         place: Place,
-        at: &[Tagged],
         key: &Key,
         id: Id,
         value: Value,
     ) -> Result<bool, AllocError> {
-        self.put_value(at, key, id, value)
+        let was = self.node(place).register(key).is_some();
+        self.set(place, Change::PutValue(key.copy()?, id, value))?;
+        Ok(was)
     }
 
-    fn set_presence_at(
-        &mut self,
-        place: Place,
-        at: &[Tagged],
-        key: &Key,
-        ids: &[Id],
-    ) -> Result<(), AllocError> {
-        self.set_presence(at, key, ids)
-    }
-
-    fn key_after_at(&self, place: Place, at: &[Tagged], above: Option<&Key>) -> Option<&Key> {
-        self.key_after(at, above)
-    }
-
-    fn presence_after_at(&self, place: Place, at: &[Tagged], above: Option<&Key>) -> Option<&Key> {
-        self.presence_after(at, above)
-    }
-
-    fn link_after_at(&self, place: Place, at: &[Tagged], above: Option<&Key>) -> Option<&Key> {
-        self.link_after(at, above)
-    }
-
-    fn keys_at(
-        &self,
-        alloc: Global,
-        place: Place,
-        at: &[Tagged],
-    ) -> Result<Vec<(&Key, Hint)>, AllocError> {
-        self.root.node_at(at).keys_in_order(alloc)
-    }
-
-    fn map_by(&self, place: Place, at: &[Tagged], key: &Key, hint: Hint) -> Option<Place> {
-        if self.root.node_at(at).has_map(key) {
-            Some(Place { number: 0 })
-        } else {
-            None
+    fn after_at(&self, place: Place, of: KeysOf, above: Option<&Key>) -> Option<&Key> {
+        let node = self.node(place);
+        match of {
+            KeysOf::Content => node.key_after(above),
+            KeysOf::Presence => node.presence_after(above),
+            KeysOf::Link => node.link_after(above),
         }
     }
 
-    fn list_by(&self, place: Place, at: &[Tagged], key: &Key, hint: Hint) -> Option<Place> {
-        if self.root.node_at(at).has_list(key) {
-            Some(Place { number: 0 })
-        } else {
-            None
-        }
-    }
-
-    fn register_by(
-        &self,
-        place: Place,
-        at: &[Tagged],
-        key: &Key,
-        hint: Hint,
-    ) -> Option<&[(Id, Value)]> {
-        self.register(at, key)
-    }
-
-    fn presence_by(&self, place: Place, at: &[Tagged], key: &Key, hint: Hint) -> Option<&[Id]> {
-        self.presence(at, key)
+    fn keys_at(&self, alloc: Global, place: Place) -> Result<Vec<(&Key, Hint)>, AllocError> {
+        self.node(place).keys_in_order(alloc)
     }
 
     #[tactic(auto, using(crate::proofs::UndoLemmas::length_contents))]

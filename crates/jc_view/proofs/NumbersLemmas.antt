@@ -16,7 +16,9 @@ use Rattle.jc_rules.specs.Entries.{find}
 use Rattle.std.specs.Ordering.{eq_by_cmp}
 use Rattle.jc_rules.specs.Context.{Context, context, Children, no_child, child, Register}
 use Rattle.jc_rules.specs.State.{State}
-use Rattle.jc_view.specs.Visible.{GoesThrough, goes_by, number_json, value_json, pair_items, if_alive, is_alive, with_part, with_values, parts_json, one_of, or_no_value, present, at_key, members_at, visible_items_at, elements_after, map_json, list_json, maps_in, lists_in, document, visible, view_json}
+use Rattle.jc_json.specs.Values.{number_json, value_json, pair_items}
+use Rattle.jc_json.specs.declared.writing.Numbers.TheVariants.{Plain}
+use Rattle.jc_view.specs.Visible.{GoesThrough, goes_by, if_alive, is_alive, with_part, with_values, parts_json, one_of, or_no_value, present, at_key, members_at, visible_items_at, elements_after, map_json, list_json, maps_in, lists_in, document, visible, view_json}
 
 literal : (o : Option (List ℕ)) (s : List ℕ) → after_number s ≡ o → HasNumbers (number_json o s)
 literal (Some []) s e = e
@@ -32,7 +34,7 @@ value_numbers V.Null = tt
 value_numbers V.EmptyMap = tt
 value_numbers V.EmptyList = tt
 
-pairs_numbers : (names : List (List ℕ)) (r : Register) → ItemsHaveNumbers (pair_items names r)
+pairs_numbers : (names : List (List ℕ)) (r : Register) → ItemsHaveNumbers (pair_items Plain names r)
 pairs_numbers names [] = tt
 pairs_numbers names (e ∷ r) = ((tt, (value_numbers e.1, tt)), pairs_numbers names r)
 
@@ -45,7 +47,7 @@ alive_numbers : (alive : Bool) (x : Option Json) → MayHave x → MayHave (if_a
 alive_numbers true x h = h
 alive_numbers false x h = tt
 
-part_numbers : (k : List ℕ) (o : Option Json) (ms : Members) → MayHave o → MembersHaveNumbers ms → MembersHaveNumbers (with_part k o ms)
+pub part_numbers : (k : List ℕ) (o : Option Json) (ms : Members) → MayHave o → MembersHaveNumbers ms → MembersHaveNumbers (with_part k o ms)
 part_numbers k None ms h g = g
 part_numbers k (Some j) ms h g = (h, g)
 
@@ -79,7 +81,7 @@ found_numbers k (e ∷ ms) h = go (eq_by_cmp key_cmp k e.0) (found_numbers k ms 
     go true g = h.0
     go false g = g
 
-key_numbers : (names : List (List ℕ)) (alive : Tagged → Bool) (ms ls : List (Key × Json)) (rs : List (Key × Register)) (k : Key) → PartsHave ms → PartsHave ls → HasNumbers (at_key names alive ms ls rs k)
+pub key_numbers : (names : List (List ℕ)) (alive : Tagged → Bool) (ms ls : List (Key × Json)) (rs : List (Key × Register)) (k : Key) → PartsHave ms → PartsHave ls → HasNumbers (at_key names alive ms ls rs k)
 key_numbers names alive ms ls rs k h g =
     one_numbers names (or_no_value (find key_cmp k rs)) (if_alive (alive (MapT k)) (find key_cmp k ms)) (if_alive (alive (ListT k)) (find key_cmp k ls))
     (alive_numbers (alive (MapT k)) (find key_cmp k ms) (found_numbers k ms h))
@@ -111,11 +113,11 @@ mutual
       items_numbers (at_key names (is_alive goes at (present p)) (maps_in names goes at m) (lists_in names goes at l) r)
       (λ k. key_numbers names (is_alive goes at (present p)) (maps_in names goes at m) (lists_in names goes at l) r k (maps_numbers names goes at m) (lists_numbers names goes at l)) (present p) (elements_after (length n) K.Head n)
 
-  maps_numbers : (names : List (List ℕ)) (goes : GoesThrough) (at : List Tagged) (cs : Children) → PartsHave (maps_in names goes at cs)
+  pub maps_numbers : (names : List (List ℕ)) (goes : GoesThrough) (at : List Tagged) (cs : Children) → PartsHave (maps_in names goes at cs)
   maps_numbers names goes at no_child = tt
   maps_numbers names goes at (child k c cs) = (map_numbers names goes (at ++ MapT k ∷ []) c, maps_numbers names goes at cs)
 
-  lists_numbers : (names : List (List ℕ)) (goes : GoesThrough) (at : List Tagged) (cs : Children) → PartsHave (lists_in names goes at cs)
+  pub lists_numbers : (names : List (List ℕ)) (goes : GoesThrough) (at : List Tagged) (cs : Children) → PartsHave (lists_in names goes at cs)
   lists_numbers names goes at no_child = tt
   lists_numbers names goes at (child k c cs) = (list_numbers names goes (at ++ ListT k ∷ []) c, lists_numbers names goes at cs)
 

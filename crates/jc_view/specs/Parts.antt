@@ -19,7 +19,9 @@ use Rattle.jc_rules.specs.ContextsAt.{node_in, or_empty}
 use Rattle.jc_tree.specs.Walks.{entry_of}
 use Rattle.jc_view.specs.declared.document.Form.{Form as AnyForm}
 use Rattle.jc_view.specs.declared.document.Form.TheVariants as F
-use Rattle.jc_view.specs.Visible.{GoesThrough, value_json, pair_items, is_alive, present, at_key, marked, map_json, list_json, maps_in, lists_in}
+use Rattle.jc_json.specs.Values.{value_json, pair_items}
+use Rattle.jc_json.specs.declared.writing.Numbers.TheVariants.{Plain}
+use Rattle.jc_view.specs.Visible.{GoesThrough, is_alive, present, at_key, marked, map_json, list_json, maps_in, lists_in}
 
 -- what is shown at a key of a context at a path
 abbrev pub parts_shown_at : List (List ℕ) → GoesThrough → List Tagged → Context → Key → Json
@@ -105,7 +107,7 @@ first_tokens (e ∷ r) = json_tokens (value_json e.1)
 abbrev pub values_tokens : List (List ℕ) → Register → List Token
 values_tokens names [] = []
 values_tokens names (e ∷ r) =
-    T.key (codes "values") ∷ json_tokens (Rattle.json.specs.Json.array (pair_items names (e ∷ r)))
+    T.key (codes "values") ∷ json_tokens (Rattle.json.specs.Json.array (pair_items Plain names (e ∷ r)))
 
 abbrev pub item_of : (Key → Json) → Key → Context → List Token
 item_of show k c = cond (is_some (find key_cmp k (present (presences c)))) (json_tokens (show k)) []

@@ -23,34 +23,11 @@ use Rattle.jc_rules.specs.ReplicaNames.{name_at}
 use Rattle.jc_rules.specs.WellFormed.{is_some_id}
 use Rattle.jc_rules.specs.State.{State}
 use Rattle.jc_rules.specs.Table.{op_of}
-use Rattle.jc_json.specs.Json.{id_text}
+use Rattle.jc_json.specs.Values.{value_json, pair_items}
+use Rattle.jc_json.specs.declared.writing.Numbers.TheVariants.{Plain}
 use Rattle.jc_meaning.specs.Effects.{goes_through}
 use Rattle.jc_meaning.specs.Seen.{ids_of_some}
 use Rattle.jc_meaning.specs.Meaning.{holds_of}
-
--- ---- values
-
--- The text of a number stays as it is. A text that is no number of JSON, which no scenario has, is a string.
-abbrev pub number_json : Option (List ℕ) → List ℕ → Json
-number_json (Some []) s = number s
-number_json _ s = string s
-
-abbrev pub value_json : Value → Json
-value_json (V.Number s) = number_json (after_number s) s
-value_json (V.Str s) = string s
-value_json V.True = boolean true
-value_json V.False = boolean false
-value_json V.Null = null
-value_json V.EmptyMap = object no_members
-value_json V.EmptyList = array no_items
-
--- a value with its identifier before it
-abbrev pub pair_json : List (List ℕ) → Id × Value → Json
-pair_json names e = array (item (string (id_text names e.0)) (item (value_json e.1) no_items))
-
-abbrev pub pair_items : List (List ℕ) → Register → Items
-pair_items names [] = no_items
-pair_items names (e ∷ r) = item (pair_json names e) (pair_items names r)
 
 -- ---- one place
 
@@ -60,7 +37,7 @@ with_part k (Some j) ms = member k j ms
 
 abbrev pub with_values : List (List ℕ) → Register → Members
 with_values names [] = no_members
-with_values names (e ∷ r) = member (codes "values") (array (pair_items names (e ∷ r))) no_members
+with_values names (e ∷ r) = member (codes "values") (array (pair_items Plain names (e ∷ r))) no_members
 
 abbrev pub parts_json : List (List ℕ) → Register → Option Json → Option Json → Json
 parts_json names r m l = object (with_part (codes "list") l (with_part (codes "map") m (with_values names r)))

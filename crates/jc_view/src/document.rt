@@ -19,15 +19,12 @@ ghost use Rattle.jc_json.specs.Gains.{Gains};
 ghost use Rattle.jc_view.specs.Parts.{parts_shown_at, child_json, shows_at, form_of, member_shown, item_of, part_tokens, values_tokens, first_tokens, is_list, if_so};
 
 use crate::alive::is_alive;
-use crate::values::{write_pairs, write_value};
+use jc_json::{Numbers, write_pairs, write_value};
 use jc_replica::Replica;
 use jc_rules::{Id, Key, Next, Tagged, Text, Value};
-use jc_tree::{Hint, Place, TreeStore};
+use jc_tree::{ANYWHERE, KeysOf, Place, TreeStore};
 use json::Writer;
 use std::alloc::{AllocError, Global};
-
-/// For a key of which no hint is known.
-const ANYWHERE: Hint = Hint { number: 0 };
 
 /// How a place is shown: as its one alternative, or as a conflict of all its alternatives.
 #[derive(Clone, Copy)]
@@ -44,7 +41,7 @@ pub(crate) fn is_present<S: TreeStore>(store: &S, place: Place, at: &[Tagged], k
     requires named { S.names store.now place at.now }
     ensures { result ≡ is_some (find key_cmp key.now (present (presences (here at.now (S.tree store.now))))) }
 {
-    match store.presence_by(place, at, key, ANYWHERE) {
+    match store.presence_by(place, key, ANYWHERE) {
         Some(ids) => !ids.is_empty(),
         None => false,
     }
@@ -61,7 +58,7 @@ fn values_at<'a, S: TreeStore>(
     requires named { S.names store.now place at.now }
     ensures { result.now ≡ or_no_value (find key_cmp key.now (registers (here at.now (S.tree store.now)))) }
 {
-    match store.register_at(place, at, key) {
+    match store.register_by(place, key, ANYWHERE) {
         Some(pairs) => pairs,
         None => &[],
     }
@@ -81,10 +78,10 @@ fn is_shown<S: TreeStore>(
     ensures { result ≡
         shows_at (goes_by replica.now.history.now) at.now tagged.now (here at.now (S.tree store.now)) }
 {
-    if store.below(place, at, tagged).is_none() {
+    if store.below(place, tagged).is_none() {
         return false;
     }
-    match store.presence_by(place, at, tagged.key(), ANYWHERE) {
+    match store.presence_by(place, tagged.key(), ANYWHERE) {
         Some(ids) => is_alive(replica, ids, at, tagged),
         None => false,
     }
@@ -141,7 +138,7 @@ fn element_after<S: TreeStore>(store: &S, place: Place, at: &[Tagged], key: &Key
     ensures some { (i : AnyId) → result ≡ Some i → next_of key.now (here at.now (S.tree store.now)) ≡ Some (To i) }
     ensures none { result ≡ None → (i : AnyId) → next_of key.now (here at.now (S.tree store.now)) ≢ Some (To i) }
 {
-    match store.step_by(place, at, key, ANYWHERE).next {
+    match store.step_by(place, key, ANYWHERE).next {
         Some(Next::Elem(id)) => Some(id),
         _ => None,
     }
@@ -158,7 +155,7 @@ fn write_first(values: &[(Id, Value)], out: &mut Writer) -> Result<(), AllocErro
     ensures { OnOk result (Gains out.old out.new (first_tokens values.now)) }
 {
     match values.first() {
-        Some((_, value)) => write_value(value, out),
+        Some((_, value)) => write_value(value, Numbers::Plain, out),
         None => Ok(()),
     }
 }
@@ -176,7 +173,7 @@ fn write_values(
         return Ok(());
     }
     out.key("values")?;
-    write_pairs(alloc, names, values, out)
+    write_pairs(alloc, names, values, Numbers::Plain, out)
 }
 
 /// Writes the map or the list under a tagged key. At the end `at` is as it was, unless memory ran out.
@@ -201,7 +198,7 @@ fn write_child<S: TreeStore>(
         (here at.old.items (S.tree store.now))))) }
     ensures place { OnOk result (at.new.items ≡ at.old.items) }
 {
-    let Some(child) = store.below(place, at.as_slice(), &tagged) else {
+    let Some(child) = store.below(place, &tagged) else {
         unreachable!();
     };
     let list = is_list(&tagged);
@@ -438,7 +435,7 @@ fn write_map<S: TreeStore>(
 {
     out.begin_object()?;
     let mut last = None;
-    while let Some(key) = store.presence_after_at(place, at.as_slice(), last) {
+    while let Some(key) = store.after_at(place, KeysOf::Presence, last) {
         write_member(alloc, names, replica, store, place, at, key, out)?;
         last = Some(key);
     }

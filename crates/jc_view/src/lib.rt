@@ -6,7 +6,6 @@ mod document;
 pub mod laws;
 mod place;
 mod replica;
-mod values;
 
 pub use document::view_line;
 pub use place::view_place;

@@ -9,9 +9,9 @@ returns-in-Delete-clause-ok g c =
 
 pub returns-in_ok-was-in_default : goal.returns-in_ok-was-in_default
 returns-in_ok-was-in_default g c = record {
-  ok = adds c.args.at.now c.args.key.now c.key.result.now c.args.op.now.id c.args.op.now.mutation _ _ _ c.key.ensures c.in_default.not-Delete c.in_ok-was-in_default.ensures.was c.in_ok-was-in_default.ensures.ok;
+  ok = adds c.args.at.now c.args.key.now c.key.result.now c.args.op.now.id c.args.op.now.mutation _ _ _ c.key.ensures c.in_default.not-Delete (c.in_ok-was-in_default.ensures.was c.args.at.now c.requires.named) (c.in_ok-was-in_default.ensures.ok c.args.at.now c.requires.named);
   named = c.in_ok-was-in_default.ensures.names_stay _ _ c.requires.named;
-  links = none_presence c.args.at.now c.key.result.now _ _ _ c.requires.there c.in_ok-was-in_default.ensures.ok;
+  links = none_presence c.args.at.now c.key.result.now _ _ _ c.requires.there (c.in_ok-was-in_default.ensures.ok c.args.at.now c.requires.named);
   names_stay = c.in_ok-was-in_default.ensures.names_stay;
-  kept = later_changed c.args.at.now _ _ _ c.in_ok-was-in_default.ensures.ok;
+  kept = later_changed c.args.at.now _ _ _ (c.in_ok-was-in_default.ensures.ok c.args.at.now c.requires.named);
 }

@@ -12,10 +12,6 @@ use Rattle.jc_apply.proofs.assigning.assign_primitive.Goals as goal
 pub add_id-requires-clause-there : goal.add_id-requires-clause-there
 add_id-requires-clause-there g c = after_clear _ _ _ _ _ _ _ c.requires.there c.in_ok-clear_at.ensures.ok
 
-pub put_value_at-requires-clause-there : goal.put_value_at-requires-clause-there
-put_value_at-requires-clause-there g c =
-    after_lead _ _ _ _ _ _ (after_clear _ _ _ _ _ _ _ c.requires.there c.in_ok-clear_at.ensures.ok) (c.in_ok-add_id.ensures.ok (RegT c.args.last.now) (Assign c.args.value.now) refl adds_assigned)
-
 pub put_value_at-requires-clause-primitive : goal.put_value_at-requires-clause-primitive
 put_value_at-requires-clause-primitive g c = rw c.in_ok-copy-2.ensures c.requires.primitive
 
@@ -26,21 +22,21 @@ close-requires g c =
 pub returns-clause-ok : goal.returns-clause-ok
 returns-clause-ok g c =
     let d = c.add_id.new.store in
-    assigned c.args.at.now c.args.op.now c.args.last.now c.args.value.now _ _ c.register_rule.result _ _ _ _ _ _ _ _ _ _ _ c.requires.there c.requires.primitive (ap RegT c.in_ok-copy.ensures) c.in_ok-open.ensures.ok c.in_ok-clear_at.ensures.ok (c.in_ok-add_id.ensures.ok (RegT c.args.last.now) (Assign c.args.value.now) refl adds_assigned) c.in_ok-copy-2.ensures c.in_ok-was.ensures.ok (c.register_rule.ensures (here c.args.at.now (g.S.TreeStore.tree d)) c.args.last.now c.in_ok-was.ensures.was) c.in_ok-push.ensures.ok (c.close.ensures ∙ ap (λ (n : ℕ). at_depth n c.push.new.self) c.depth-depth.ensures)
+    assigned c.args.at.now c.args.op.now c.args.last.now c.args.value.now _ _ c.register_rule.result _ _ _ _ _ _ _ _ _ _ _ c.requires.there c.requires.primitive (ap RegT c.in_ok-copy.ensures) c.in_ok-open.ensures.ok c.in_ok-clear_at.ensures.ok (c.in_ok-add_id.ensures.ok (RegT c.args.last.now) (Assign c.args.value.now) refl adds_assigned) c.in_ok-copy-2.ensures (c.in_ok-was.ensures.ok c.args.at.now (c.in_ok-add_id.ensures.names_stay c.args.place c.args.at.now (c.in_ok-clear_at.ensures.names_stay c.args.place c.args.at.now c.requires.named))) (c.register_rule.ensures (here c.args.at.now (g.S.TreeStore.tree d)) c.args.last.now (c.in_ok-was.ensures.was c.args.at.now (c.in_ok-add_id.ensures.names_stay c.args.place c.args.at.now (c.in_ok-clear_at.ensures.names_stay c.args.place c.args.at.now c.requires.named)))) c.in_ok-push.ensures.ok (c.close.ensures ∙ ap (λ (n : ℕ). at_depth n c.push.new.self) c.depth-depth.ensures)
 
 pub returns-clause-links : goal.returns-clause-links
 returns-clause-links g c =
     let there = after_clear _ _ _ _ _ _ _ c.requires.there c.in_ok-clear_at.ensures.ok in
     let after = after_lead _ _ _ _ _ _ there (c.in_ok-add_id.ensures.ok (RegT c.args.last.now) (Assign c.args.value.now) refl adds_assigned) in
-    none_then _ _ _ _ (none_cleared _ _ _ _ _ _ _ c.requires.there c.in_ok-clear_at.ensures.ok) (none_then _ _ _ _ c.in_ok-add_id.ensures.links (none_register _ _ _ _ _ after c.in_ok-was.ensures.ok))
+    none_then _ _ _ _ (none_cleared _ _ _ _ _ _ _ c.requires.there c.in_ok-clear_at.ensures.ok) (none_then _ _ _ _ c.in_ok-add_id.ensures.links (none_register _ _ _ _ _ after (c.in_ok-was.ensures.ok c.args.at.now (c.in_ok-add_id.ensures.names_stay c.args.place c.args.at.now (c.in_ok-clear_at.ensures.names_stay c.args.place c.args.at.now c.requires.named)))))
 
 pub returns-clause-kept : goal.returns-clause-kept
 returns-clause-kept g c =
-    then _ _ _ _ _ _ (rule_opened _ _ _ _ R.Assign refl c.in_ok-open.ensures.ok) (then _ _ _ _ _ _ c.in_ok-clear_at.ensures.kept (then _ _ _ _ _ _ c.in_ok-add_id.ensures.kept (then _ _ _ _ _ _ (tree_changed _ _ _ _ _ _ c.in_ok-was.ensures.ok refl) (then _ _ _ _ _ _ (rule_added _ _ _ _ c.register_rule.result refl c.in_ok-push.ensures.ok) (depth_changed _ _ _ _ _ refl c.close.ensures)))))
+    then _ _ _ _ _ _ (rule_opened _ _ _ _ R.Assign refl c.in_ok-open.ensures.ok) (then _ _ _ _ _ _ c.in_ok-clear_at.ensures.kept (then _ _ _ _ _ _ c.in_ok-add_id.ensures.kept (then _ _ _ _ _ _ (tree_changed _ _ _ _ _ _ (c.in_ok-was.ensures.ok c.args.at.now (c.in_ok-add_id.ensures.names_stay c.args.place c.args.at.now (c.in_ok-clear_at.ensures.names_stay c.args.place c.args.at.now c.requires.named))) refl) (then _ _ _ _ _ _ (rule_added _ _ _ _ c.register_rule.result refl c.in_ok-push.ensures.ok) (depth_changed _ _ _ _ _ refl c.close.ensures)))))
 
 pub returns-in_err-push-clause-kept : goal.returns-in_err-push-clause-kept
 returns-in_err-push-clause-kept g c =
-    then _ _ _ _ _ _ (rule_opened _ _ _ _ R.Assign refl c.in_ok-open.ensures.ok) (then _ _ _ _ _ _ c.in_ok-clear_at.ensures.kept (then _ _ _ _ _ _ c.in_ok-add_id.ensures.kept (then _ _ _ _ _ _ (tree_changed _ _ _ _ _ _ c.in_ok-was.ensures.ok refl) (nothing _ _ _ _ refl c.in_err-push.ensures.err))))
+    then _ _ _ _ _ _ (rule_opened _ _ _ _ R.Assign refl c.in_ok-open.ensures.ok) (then _ _ _ _ _ _ c.in_ok-clear_at.ensures.kept (then _ _ _ _ _ _ c.in_ok-add_id.ensures.kept (then _ _ _ _ _ _ (tree_changed _ _ _ _ _ _ (c.in_ok-was.ensures.ok c.args.at.now (c.in_ok-add_id.ensures.names_stay c.args.place c.args.at.now (c.in_ok-clear_at.ensures.names_stay c.args.place c.args.at.now c.requires.named))) refl) (nothing _ _ _ _ refl c.in_err-push.ensures.err))))
 
 pub returns-in_err-was-clause-kept : goal.returns-in_err-was-clause-kept
 returns-in_err-was-clause-kept g c =

@@ -2,7 +2,7 @@ use Rattle.std.proofs.Common.{◌+◌, true, take, refl, ◌∙◌, ap, is_some}
 use Rattle.jc_tree.specs.declared.store.Place.{Place}
 use Rattle.jc_rules.specs.Paths.{IsPath}
 use Rattle.jc_apply.specs.Fits.{Fits}
-use Rattle.jc_apply.proofs.ReachLemmas.{key_on, walked_there, walked_new, named_there, named_none, insert_there, insert_new, other_fits}
+use Rattle.jc_apply.proofs.ReachLemmas.{key_on, walked_there, walked_new, named_there, named_so, named_whole, named_none, insert_there, insert_new, other_fits}
 use Rattle.jc_apply.proofs.FitsRefusedLemmas.{told}
 use Rattle.jc_apply.proofs.fitting.fits.Goals as goal
 use Rattle.jc_apply.proofs.fitting.fits.Goals.{in-Some, in_default-place}
@@ -12,8 +12,8 @@ loop-depth-preserved g c =
     let key = key_on c.as_slice-path.result.now c.args.cursor.now.path c.loop-depth.depth c.index-path-depth.result c.as_slice-path.ensures.keys c.as_slice-path.ensures.path c.loop-depth-test.true c.index-path-depth.is in
     elim c.match-place.branch [
       | in-Some w ↦ record {
-        walked = walked_there (g.S.TreeStore.tree c.args.store.now).now c.as_slice-path.result.now c.loop-depth.depth c.index-path-depth.result (is_some c.loop-depth.place) (is_some c.match-place.place) c.loop-depth-test.true c.index-path-depth.is key c.loop-depth.invariant.walked (ap is_some w.in-Some.is) (ap is_some w.place-is ∙ w.below-place.ensures.some);
-        named = named_there Place (λ p at. g.S.TreeStore.names c.args.store.now p at) c.as_slice-path.result.now c.loop-depth.depth c.index-path-depth.result w.below-place.result c.match-place.place c.loop-depth-test.true c.index-path-depth.is w.place-is w.below-place.ensures.named;
+        walked = walked_there (g.S.TreeStore.tree c.args.store.now).now c.as_slice-path.result.now c.loop-depth.depth c.index-path-depth.result (is_some c.loop-depth.place) (is_some c.match-place.place) c.loop-depth-test.true c.index-path-depth.is key c.loop-depth.invariant.walked (ap is_some w.in-Some.is) (ap is_some w.place-is ∙ w.below-place.ensures.some (take c.loop-depth.depth c.as_slice-path.result.now) (named_so Place (λ p. g.S.TreeStore.names c.args.store.now p (take c.loop-depth.depth c.as_slice-path.result.now)) c.loop-depth.place w.in-Some.parent w.in-Some.is c.loop-depth.invariant.named));
+        named = named_there Place (λ p at. g.S.TreeStore.names c.args.store.now p at) c.as_slice-path.result.now c.loop-depth.depth c.index-path-depth.result w.below-place.result c.match-place.place c.loop-depth-test.true c.index-path-depth.is w.place-is (w.below-place.ensures.named (take c.loop-depth.depth c.as_slice-path.result.now) (named_so Place (λ p. g.S.TreeStore.names c.args.store.now p (take c.loop-depth.depth c.as_slice-path.result.now)) c.loop-depth.place w.in-Some.parent w.in-Some.is c.loop-depth.invariant.named));
       }
       | in_default-place w ↦ record {
         walked = walked_new (g.S.TreeStore.tree c.args.store.now).now c.as_slice-path.result.now c.loop-depth.depth c.index-path-depth.result (is_some c.loop-depth.place) (is_some c.match-place.place) c.loop-depth-test.true c.index-path-depth.is key c.loop-depth.invariant.walked (ap is_some w.in_default-place.is) (ap is_some (w.place-is ∙ w.in_default-place.is));
@@ -23,7 +23,7 @@ loop-depth-preserved g c =
 
 pub returns-in-Some-place : goal.returns-in-Some-place
 returns-in-Some-place g c =
-    let t = told _ c.args.cursor.now c.args.mutation.now c.is_some.result c.as_slice-path.ensures.path (insert_there _ c.as_slice-path.result.now c.args.cursor.now.path c.loop-depth.depth (is_some c.loop-depth.place) c.args.cursor.now.last c.args.mutation.now _ c.step_by-step.result.next c.is_some.result c.as_slice-path.ensures.keys c.loop-depth-test.false c.loop-depth.invariant.walked (ap is_some c.in-Some-place.is) c.in-Insert.is c.step_by-step.ensures.next c.is_some.ensures) in
+    let t = told _ c.args.cursor.now c.args.mutation.now c.is_some.result c.as_slice-path.ensures.path (insert_there _ c.as_slice-path.result.now c.args.cursor.now.path c.loop-depth.depth (is_some c.loop-depth.place) c.args.cursor.now.last c.args.mutation.now _ c.step_by-step.result.next c.is_some.result c.as_slice-path.ensures.keys c.loop-depth-test.false c.loop-depth.invariant.walked (ap is_some c.in-Some-place.is) c.in-Insert.is (c.step_by-step.ensures.next c.as_slice-path.result.now (named_whole Place (λ p at. g.S.TreeStore.names c.args.store.now p at) c.as_slice-path.result.now c.loop-depth.depth c.loop-depth.place c.in-Some-place.place c.loop-depth-test.false c.in-Some-place.is c.loop-depth.invariant.named)) c.is_some.ensures) in
     record { fits = t.fits; refused = t.refused; not_refused = t.not_refused }
 
 pub returns-in-None : goal.returns-in-None

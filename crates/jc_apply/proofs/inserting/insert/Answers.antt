@@ -1,18 +1,10 @@
 use Rattle.std.proofs.Common.{ℕ, refl, ◌∙◌, ap, arith}
 use Rattle.jc_rules.specs.declared.rule.Rule.TheVariants as R
 use Rattle.jc_rules.specs.Trace.{Rows, at_depth}
-use Rattle.jc_tree.proofs.TreeLemmas.{still_place}
 use Rattle.jc_tree.proofs.CanGoBackLemmas.{then, nothing, rule_opened, rows_added, tree_changed, depth_changed}
 use Rattle.jc_apply.proofs.ApplyRulesLemmas.{after_lead}
 use Rattle.jc_apply.proofs.InsertLemmas.{inserted, linked_only}
 use Rattle.jc_apply.proofs.inserting.insert.Goals as goal
-
-pub set_next_at-requires-clause-there : goal.set_next_at-requires-clause-there
-set_next_at-requires-clause-there g c = after_lead _ _ _ _ _ _ c.requires.there c.in_ok-assign.ensures.ok
-
-pub set_next_at-requires-2-clause-there : goal.set_next_at-requires-2-clause-there
-set_next_at-requires-2-clause-there g c =
-    still_place _ _ _ _ (after_lead _ _ _ _ _ _ c.requires.there c.in_ok-assign.ensures.ok) c.in_ok-set_next_at.ensures.ok
 
 pub close-requires : goal.close-requires
 close-requires g c =
@@ -20,16 +12,16 @@ close-requires g c =
 
 pub returns-in_err-set_next_at-2-clause-kept : goal.returns-in_err-set_next_at-2-clause-kept
 returns-in_err-set_next_at-2-clause-kept g c =
-    then _ _ _ _ _ _ (rows_added _ _ _ _ refl c.in_ok-key.ensures.kept) (then _ _ _ _ _ _ (rule_opened _ _ _ _ R.Insert1 refl c.in_ok-open.ensures.ok) (then _ _ _ _ _ _ c.in_ok-assign.ensures.kept (then _ _ _ _ _ _ (tree_changed _ _ _ _ _ _ c.in_ok-set_next_at.ensures.ok refl) (nothing _ _ _ _ c.in_err-set_next_at-2.ensures.err refl))))
+    then _ _ _ _ _ _ (rows_added _ _ _ _ refl c.in_ok-key.ensures.kept) (then _ _ _ _ _ _ (rule_opened _ _ _ _ R.Insert1 refl c.in_ok-open.ensures.ok) (then _ _ _ _ _ _ c.in_ok-assign.ensures.kept (then _ _ _ _ _ _ (tree_changed _ _ _ _ _ _ (c.in_ok-set_next_at.ensures.ok c.args.at.now (c.in_ok-assign.ensures.names_stay c.args.place c.args.at.now c.requires.named)) refl) (nothing _ _ _ _ c.in_err-set_next_at-2.ensures.err refl))))
 
 pub returns-clause-ok : goal.returns-clause-ok
 returns-clause-ok g c =
-    inserted c.args.at.now c.args.op.now c.args.value.now _ _ _ _ _ _ _ _ _ _ _ _ c.requires.there c.requires.inserts c.in_ok-key.ensures.ok c.in_ok-open.ensures.ok refl c.in_ok-assign.ensures.ok c.in_ok-set_next_at.ensures.ok c.in_ok-set_next_at-2.ensures.ok (c.close.ensures ∙ ap (λ (n : ℕ). at_depth n c.assign.new.trace) c.depth-depth.ensures)
+    inserted c.args.at.now c.args.op.now c.args.value.now _ _ _ _ _ _ _ _ _ _ _ _ c.requires.there c.requires.inserts c.in_ok-key.ensures.ok c.in_ok-open.ensures.ok refl c.in_ok-assign.ensures.ok (c.in_ok-set_next_at.ensures.ok c.args.at.now (c.in_ok-assign.ensures.names_stay c.args.place c.args.at.now c.requires.named)) (c.in_ok-set_next_at-2.ensures.ok c.args.at.now (c.in_ok-set_next_at.ensures.names_stay c.args.place c.args.at.now (c.in_ok-assign.ensures.names_stay c.args.place c.args.at.now c.requires.named))) (c.close.ensures ∙ ap (λ (n : ℕ). at_depth n c.assign.new.trace) c.depth-depth.ensures)
 
 pub returns-clause-links : goal.returns-clause-links
 returns-clause-links g c =
-    linked_only c.args.at.now c.args.op.now.id _ _ _ _ _ _ c.requires.there (after_lead _ _ _ _ _ _ c.requires.there c.in_ok-assign.ensures.ok) c.requires.chained c.requires.fresh c.in_ok-key.ensures.ok.follows c.in_ok-assign.ensures.links c.in_ok-set_next_at.ensures.ok c.in_ok-set_next_at-2.ensures.ok
+    linked_only c.args.at.now c.args.op.now.id _ _ _ _ _ _ c.requires.there (after_lead _ _ _ _ _ _ c.requires.there c.in_ok-assign.ensures.ok) c.requires.chained c.requires.fresh c.in_ok-key.ensures.ok.follows c.in_ok-assign.ensures.links (c.in_ok-set_next_at.ensures.ok c.args.at.now (c.in_ok-assign.ensures.names_stay c.args.place c.args.at.now c.requires.named)) (c.in_ok-set_next_at-2.ensures.ok c.args.at.now (c.in_ok-set_next_at.ensures.names_stay c.args.place c.args.at.now (c.in_ok-assign.ensures.names_stay c.args.place c.args.at.now c.requires.named)))
 
 pub returns-clause-kept : goal.returns-clause-kept
 returns-clause-kept g c =
-    then _ _ _ _ _ _ (rows_added _ _ _ _ refl c.in_ok-key.ensures.kept) (then _ _ _ _ _ _ (rule_opened _ _ _ _ R.Insert1 refl c.in_ok-open.ensures.ok) (then _ _ _ _ _ _ c.in_ok-assign.ensures.kept (then _ _ _ _ _ _ (tree_changed _ _ _ _ _ _ c.in_ok-set_next_at.ensures.ok refl) (then _ _ _ _ _ _ (tree_changed _ _ _ _ _ _ c.in_ok-set_next_at-2.ensures.ok refl) (depth_changed _ _ _ _ _ refl c.close.ensures)))))
+    then _ _ _ _ _ _ (rows_added _ _ _ _ refl c.in_ok-key.ensures.kept) (then _ _ _ _ _ _ (rule_opened _ _ _ _ R.Insert1 refl c.in_ok-open.ensures.ok) (then _ _ _ _ _ _ c.in_ok-assign.ensures.kept (then _ _ _ _ _ _ (tree_changed _ _ _ _ _ _ (c.in_ok-set_next_at.ensures.ok c.args.at.now (c.in_ok-assign.ensures.names_stay c.args.place c.args.at.now c.requires.named)) refl) (then _ _ _ _ _ _ (tree_changed _ _ _ _ _ _ (c.in_ok-set_next_at-2.ensures.ok c.args.at.now (c.in_ok-set_next_at.ensures.names_stay c.args.place c.args.at.now (c.in_ok-assign.ensures.names_stay c.args.place c.args.at.now c.requires.named))) refl) (depth_changed _ _ _ _ _ refl c.close.ensures)))))

@@ -47,34 +47,34 @@ any_in-returns-clause-kept g t c =
 
 pub clear_map-returns-in_default-clause-ok : goal.clear_map-returns-in_default-clause-ok
 clear_map-returns-in_default-clause-ok g t c =
-    let e = rw c.as_slice.ensures.value at c.in_default.ensures.some in
+    let e = c.in_default.ensures.some c.args.at.now.items c.requires.named in
     clear_none _ _ _ _ _ _ _ _ c.requires.there (none_of _ (sym e)) c.in_ok-push.ensures.ok refl c.new.ensures.items
 
 pub clear_map-map_in-requires : goal.clear_map-map_in-requires
 clear_map-map_in-requires g t c =
-    let e = rw c.as_slice.ensures.value at c.in-Some.ensures.some in
+    let e = c.in-Some.ensures.some c.args.at.now.items c.requires.named in
     let x = down_map c.args.at.now.items _ c.args.key.now (g.S.TreeStore.tree c.args.store.now) c.requires.there (c.in_ok-push-2.ensures.items ∙ ap (λ (k : Key). c.args.at.now.items ++ MapT k ∷ []) c.in_ok-copy.ensures) (sym e) c.requires.chained in
-    λ κs h. (omega (arith, x.smaller), (h, (x.there, (rw (c.in_ok-push-2.ensures.items, c.in_ok-copy.ensures) (rw c.as_slice.ensures.value at c.in-Some.ensures.named), x.chained))))
+    λ κs h. (omega (arith, x.smaller), (h, (x.there, (rw (c.in_ok-push-2.ensures.items, c.in_ok-copy.ensures) (c.in-Some.ensures.named c.args.at.now.items c.requires.named), x.chained))))
 
 pub clear_map-returns-clause-ok : goal.clear_map-returns-clause-ok
 clear_map-returns-clause-ok g t c =
-    let e = rw c.as_slice.ensures.value at c.in-Some.ensures.some in
+    let e = c.in-Some.ensures.some c.args.at.now.items c.requires.named in
     map_cleared _ _ _ _ _ _ _ _ _ _ _ c.requires.there (sym e) (c.in_ok-push-2.ensures.items ∙ ap (λ (k : Key). c.args.at.now.items ++ MapT k ∷ []) c.in_ok-copy.ensures) c.in_ok-open.ensures.ok c.in_ok-ids.ensures.ok (c.close.ensures ∙ ap (λ (n : ℕ). at_depth n c.map_in.new.trace) c.depth-depth.ensures)
 
 pub clear_list-returns-in_default-clause-ok : goal.clear_list-returns-in_default-clause-ok
 clear_list-returns-in_default-clause-ok g t c =
-    let e = rw c.as_slice.ensures.value at c.in_default.ensures.some in
+    let e = c.in_default.ensures.some c.args.at.now.items c.requires.named in
     clear_none _ _ _ _ _ _ _ _ c.requires.there (none_of _ (sym e)) c.in_ok-push.ensures.ok refl c.new.ensures.items
 
 pub clear_list-list_in-requires : goal.clear_list-list_in-requires
 clear_list-list_in-requires g t c =
-    let e = rw c.as_slice.ensures.value at c.in-Some.ensures.some in
+    let e = c.in-Some.ensures.some c.args.at.now.items c.requires.named in
     let x = down_list c.args.at.now.items _ c.args.key.now (g.S.TreeStore.tree c.args.store.now) c.requires.there (c.in_ok-push-2.ensures.items ∙ ap (λ (k : Key). c.args.at.now.items ++ ListT k ∷ []) c.in_ok-copy.ensures) (sym e) c.requires.chained in
-    λ κs h. (omega (arith, x.smaller), (h, (x.there, (rw (c.in_ok-push-2.ensures.items, c.in_ok-copy.ensures) (rw c.as_slice.ensures.value at c.in-Some.ensures.named), x.chained))))
+    λ κs h. (omega (arith, x.smaller), (h, (x.there, (rw (c.in_ok-push-2.ensures.items, c.in_ok-copy.ensures) (c.in-Some.ensures.named c.args.at.now.items c.requires.named), x.chained))))
 
 pub clear_list-returns-clause-ok : goal.clear_list-returns-clause-ok
 clear_list-returns-clause-ok g t c =
-    let e = rw c.as_slice.ensures.value at c.in-Some.ensures.some in
+    let e = c.in-Some.ensures.some c.args.at.now.items c.requires.named in
     list_cleared _ _ _ _ _ _ _ _ _ _ _ c.requires.there (sym e) (c.in_ok-push-2.ensures.items ∙ ap (λ (k : Key). c.args.at.now.items ++ ListT k ∷ []) c.in_ok-copy.ensures) c.in_ok-open.ensures.ok c.in_ok-ids.ensures.ok (c.close.ensures ∙ ap (λ (n : ℕ). at_depth n c.list_in.new.trace) c.depth-depth.ensures)
 
 pub elem_in-returns-then-is_cleared-clause-ok : goal.elem_in-returns-then-is_cleared-clause-ok
@@ -116,14 +116,10 @@ pub list_in-loop-key-init : goal.list_in-loop-key-init
 list_in-loop-key-init g t c =
     record { along = first_along _ _ _ _ _ c.requires.there c.requires.chained c.new-ids.ensures.items; path = refl; names_stay = λ p q h. h; kept = nothing _ _ _ _ refl refl }
 
-pub list_in-step_by-step-requires-clause-there : goal.list_in-step_by-step-requires-clause-there
-list_in-step_by-step-requires-clause-there g t c =
-    (after_along _ _ _ _ _ _ _ _ _ c.requires.there (c.as_slice.ensures.value ∙ c.loop-key.invariant.path) c.loop-key.invariant.along).there
-
 pub list_in-unreachable-requires : goal.list_in-unreachable-requires
 list_in-unreachable-requires g t c =
     let none : c.step_by-step.result.next ≡ None = search rules in
-    along_finds _ _ _ _ _ _ _ _ _ _ c.requires.there (c.as_slice.ensures.value ∙ c.loop-key.invariant.path) c.loop-key.invariant.along c.in-Some.is (sym c.step_by-step.ensures.next ∙ none)
+    along_finds _ _ _ _ _ _ _ _ _ _ c.requires.there refl c.loop-key.invariant.along c.in-Some.is (sym (c.step_by-step.ensures.next c.args.at.now.items (c.loop-key.invariant.names_stay _ _ c.requires.named)) ∙ none)
 
 pub list_in-elem_in-requires : goal.list_in-elem_in-requires
 list_in-elem_in-requires g t c =
@@ -136,13 +132,13 @@ list_in-united-requires g t c = c.loop-key.invariant.along.turn.rises
 pub list_in-loop-key-smaller : goal.list_in-loop-key-smaller
 list_in-loop-key-smaller g t c =
     let pl : c.match-next.key ≡ after c.in-Some-next.next = elim c.match-next.branch [ list_in-in-Tail w ↦ w.key-is ∙ sym (ap after w.in-Tail.is) | list_in-in-Elem w ↦ w.key-is ∙ sym (ap after w.in-Elem.is) ] in
-    (along_on _ _ _ _ _ _ _ _ _ _ _ _ _ _ _ _ _ _ c.requires.there (c.as_slice.ensures.value ∙ c.loop-key.invariant.path) c.loop-key.invariant.path c.loop-key.invariant.along c.in-Some.is (sym c.step_by-step.ensures.next ∙ c.in-Some-next.is) c.in_ok-more.ensures.ok c.in_ok-open.ensures.ok (c.in_ok-ids.ensures ∙ ap (union c.loop-key.ids.items) c.as_slice-in-Some.ensures.value) pl).1
+    (along_on _ _ _ _ _ _ _ _ _ _ _ _ _ _ _ _ _ _ c.requires.there refl c.loop-key.invariant.path c.loop-key.invariant.along c.in-Some.is (sym (c.step_by-step.ensures.next c.args.at.now.items (c.loop-key.invariant.names_stay _ _ c.requires.named)) ∙ c.in-Some-next.is) c.in_ok-more.ensures.ok c.in_ok-open.ensures.ok (c.in_ok-ids.ensures ∙ ap (union c.loop-key.ids.items) c.as_slice.ensures.value) pl).1
 
 pub list_in-loop-key-preserved : goal.list_in-loop-key-preserved
 list_in-loop-key-preserved g t c =
     let pl : c.match-next.key ≡ after c.in-Some-next.next = elim c.match-next.branch [ list_in-in-Tail w ↦ w.key-is ∙ sym (ap after w.in-Tail.is) | list_in-in-Elem w ↦ w.key-is ∙ sym (ap after w.in-Elem.is) ] in
     record {
-      along = (along_on _ _ _ _ _ _ _ _ _ _ _ _ _ _ _ _ _ _ c.requires.there (c.as_slice.ensures.value ∙ c.loop-key.invariant.path) c.loop-key.invariant.path c.loop-key.invariant.along c.in-Some.is (sym c.step_by-step.ensures.next ∙ c.in-Some-next.is) c.in_ok-more.ensures.ok c.in_ok-open.ensures.ok (c.in_ok-ids.ensures ∙ ap (union c.loop-key.ids.items) c.as_slice-in-Some.ensures.value) pl).0;
+      along = (along_on _ _ _ _ _ _ _ _ _ _ _ _ _ _ _ _ _ _ c.requires.there refl c.loop-key.invariant.path c.loop-key.invariant.along c.in-Some.is (sym (c.step_by-step.ensures.next c.args.at.now.items (c.loop-key.invariant.names_stay _ _ c.requires.named)) ∙ c.in-Some-next.is) c.in_ok-more.ensures.ok c.in_ok-open.ensures.ok (c.in_ok-ids.ensures ∙ ap (union c.loop-key.ids.items) c.as_slice.ensures.value) pl).0;
       path = c.in_ok-more.ensures.path ∙ c.loop-key.invariant.path;
       names_stay = λ p q h. c.in_ok-more.ensures.names_stay p q (c.loop-key.invariant.names_stay p q h);
       kept = then _ _ _ _ _ _ c.loop-key.invariant.kept (then _ _ _ _ _ _ (rule_opened _ _ _ _ R.ClearList2 refl c.in_ok-open.ensures.ok) c.in_ok-more.ensures.kept);
@@ -294,14 +290,8 @@ elem_in-any_in-requires g t c = λ κs h. (omega arith, (h, (c.requires.there, (
 pub any_in-clear_map-requires : goal.any_in-clear_map-requires
 any_in-clear_map-requires g t c = λ κs h. (omega arith, (h, (c.requires.there, (c.requires.named, c.requires.chained))))
 
-pub clear_map-map_by-requires-clause-there : goal.clear_map-map_by-requires-clause-there
-clear_map-map_by-requires-clause-there g t c = rw c.as_slice.ensures.value c.requires.there
-
 pub clear_map-close-requires : goal.clear_map-close-requires
 clear_map-close-requires g t c = omega (arith, c.depth-depth.ensures, ap (λ (r : Rows). r.depth) c.in_ok-open.ensures.ok, c.in_ok-ids.ensures.ok.derives.depth)
-
-pub clear_list-list_by-requires-clause-there : goal.clear_list-list_by-requires-clause-there
-clear_list-list_by-requires-clause-there g t c = rw c.as_slice.ensures.value c.requires.there
 
 pub clear_list-close-requires : goal.clear_list-close-requires
 clear_list-close-requires g t c = omega (arith, c.depth-depth.ensures, ap (λ (r : Rows). r.depth) c.in_ok-open.ensures.ok, c.in_ok-ids.ensures.ok.derives.depth)
@@ -321,13 +311,13 @@ map_in-close-requires g t c = omega (arith, c.depth-depth.ensures, ap (λ (r : R
 pub list_in-loop-key-smaller-after-next : goal.list_in-loop-key-smaller-after-next
 list_in-loop-key-smaller-after-next g t c =
     let pl : c.match-next.key ≡ after c.in-Some-next.next = elim c.match-next.branch [ list_in-in-Tail w ↦ w.key-is ∙ sym (ap after w.in-Tail.is) | list_in-in-Elem w ↦ w.key-is ∙ sym (ap after w.in-Elem.is) ] in
-    (along_on _ _ _ _ _ _ _ _ _ _ _ _ _ _ _ _ _ _ c.requires.there (c.as_slice.ensures.value ∙ c.loop-key.invariant.path) c.loop-key.invariant.path c.loop-key.invariant.along c.in-Some.is (sym c.step_by-step.ensures.next ∙ c.in-Some-next.is) c.in_ok-more.ensures.ok c.in_ok-open.ensures.ok (c.in_ok-ids.ensures ∙ ap (union c.loop-key.ids.items) c.as_slice-in-Some.ensures.value) pl).1
+    (along_on _ _ _ _ _ _ _ _ _ _ _ _ _ _ _ _ _ _ c.requires.there refl c.loop-key.invariant.path c.loop-key.invariant.along c.in-Some.is (sym (c.step_by-step.ensures.next c.args.at.now.items (c.loop-key.invariant.names_stay _ _ c.requires.named)) ∙ c.in-Some-next.is) c.in_ok-more.ensures.ok c.in_ok-open.ensures.ok (c.in_ok-ids.ensures ∙ ap (union c.loop-key.ids.items) c.as_slice.ensures.value) pl).1
 
 pub list_in-loop-key-preserved-after-next : goal.list_in-loop-key-preserved-after-next
 list_in-loop-key-preserved-after-next g t c =
     let pl : c.match-next.key ≡ after c.in-Some-next.next = elim c.match-next.branch [ list_in-in-Tail w ↦ w.key-is ∙ sym (ap after w.in-Tail.is) | list_in-in-Elem w ↦ w.key-is ∙ sym (ap after w.in-Elem.is) ] in
     record {
-      along = (along_on _ _ _ _ _ _ _ _ _ _ _ _ _ _ _ _ _ _ c.requires.there (c.as_slice.ensures.value ∙ c.loop-key.invariant.path) c.loop-key.invariant.path c.loop-key.invariant.along c.in-Some.is (sym c.step_by-step.ensures.next ∙ c.in-Some-next.is) c.in_ok-more.ensures.ok c.in_ok-open.ensures.ok (c.in_ok-ids.ensures ∙ ap (union c.loop-key.ids.items) c.as_slice-in-Some.ensures.value) pl).0;
+      along = (along_on _ _ _ _ _ _ _ _ _ _ _ _ _ _ _ _ _ _ c.requires.there refl c.loop-key.invariant.path c.loop-key.invariant.along c.in-Some.is (sym (c.step_by-step.ensures.next c.args.at.now.items (c.loop-key.invariant.names_stay _ _ c.requires.named)) ∙ c.in-Some-next.is) c.in_ok-more.ensures.ok c.in_ok-open.ensures.ok (c.in_ok-ids.ensures ∙ ap (union c.loop-key.ids.items) c.as_slice.ensures.value) pl).0;
       path = c.in_ok-more.ensures.path ∙ c.loop-key.invariant.path;
       names_stay = λ p q h. c.in_ok-more.ensures.names_stay p q (c.loop-key.invariant.names_stay p q h);
       kept = then _ _ _ _ _ _ c.loop-key.invariant.kept (then _ _ _ _ _ _ (rule_opened _ _ _ _ R.ClearList2 refl c.in_ok-open.ensures.ok) c.in_ok-more.ensures.kept);

@@ -19,7 +19,7 @@ loop-lent-init g c =
     let tree = g.S.TreeStore.tree c.args.store.now in
     let d = here c.args.at.now tree in
     let lent = c.as_slice-lent-items.result.now in
-    let keys : AreContentKeys (keys_of c.new-left.result.items ++ filter (λ k. has_content d k) (keys_lent lent)) d = content_keys (keys_of c.new-left.result.items ++ filter (λ k. has_content d k) (keys_lent lent)) (keys_lent c.in_ok-keys.keys.items) d c.in_ok-keys.ensures.rising c.in_ok-keys.ensures.all (ap (λ es. keys_of es ++ filter (λ k. has_content d k) (keys_lent lent)) c.new-left.ensures.items ∙ ap (λ ks. filter (λ k. has_content d k) (keys_lent ks)) c.as_slice-lent-items.ensures.value) in
+    let keys : AreContentKeys (keys_of c.new-left.result.items ++ filter (λ k. has_content d k) (keys_lent lent)) d = content_keys (keys_of c.new-left.result.items ++ filter (λ k. has_content d k) (keys_lent lent)) (keys_lent c.in_ok-keys.keys.items) d c.in_ok-keys.ensures.rising (c.in_ok-keys.ensures.all c.args.at.now c.requires.named) (ap (λ es. keys_of es ++ filter (λ k. has_content d k) (keys_lent lent)) c.new-left.ensures.items ∙ ap (λ ks. filter (λ k. has_content d k) (keys_lent ks)) c.as_slice-lent-items.ensures.value) in
     record { through = λ deps. first_keys deps c.args.at.now tree c.args.trace.now (keys_of c.new-left.result.items ++ filter (λ k. has_content d k) (keys_lent lent)) [] c.requires.there keys refl; kept = nothing _ _ _ _ refl refl }
 
 pub returns-in_err-push_cleared-clause-kept : goal.returns-in_err-push_cleared-clause-kept

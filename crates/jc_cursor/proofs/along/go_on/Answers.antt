@@ -8,7 +8,7 @@ returns-clause-ok g c = record {
   least = c.in-Some.stretch.least;
   some = c.in-Some.ensures.some;
   most = c.in-Some.ensures.most;
-  leads = c.in-Some.ensures.over;
+  leads = (c.in-Some.ensures.over c.args.at.now c.requires.named);
   counted = omega (arith, c.in_ok-present.ensures.present, c.in_ok-present.ensures.most, c.in-Some.ensures.most);
   rows = c.in_ok-present.ensures.rows;
 }

@@ -15,4 +15,4 @@ pub returns : goal.returns
 returns g c =
     let lent = c.as_slice-lent-items.result.now in
     let t = g.S.TreeStore.tree c.args.store.now in
-    c.new.ensures ∙ named_all lent c.loop-lent.lent-index c.args.at.now t.now c.loop-lent.names.items c.loop-lent-test.false c.requires.there (g.met.S.TreeStore.kept c.args.store.now) (rw c.as_slice-lent-items.ensures.value c.in_ok-keys.ensures.rising) (rw c.as_slice-lent-items.ensures.value c.in_ok-keys.ensures.all) c.loop-lent.invariant
+    c.new.ensures ∙ named_all lent c.loop-lent.lent-index c.args.at.now t.now c.loop-lent.names.items c.loop-lent-test.false c.requires.there (g.met.S.TreeStore.kept c.args.store.now) (rw c.as_slice-lent-items.ensures.value c.in_ok-keys.ensures.rising) (rw c.as_slice-lent-items.ensures.value (c.in_ok-keys.ensures.all c.args.at.now c.requires.named)) c.loop-lent.invariant

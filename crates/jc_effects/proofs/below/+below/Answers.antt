@@ -105,7 +105,7 @@ places_below-place_below-requires g t c κs within =
 pub places_below-ids_in-requires : goal.places_below-ids_in-requires
 places_below-ids_in-requires g t c =
     let before = g.S.TreeStore.tree c.args.change.now.old.now in
-    subst (λ (p : List Tagged). IsNameOf (g.S.TreeStore.names c.args.change.now.old.now) before p c.args.contexts.old) (sym (c.as_slice-in-Some.ensures.value ∙ c.loop-lent.invariant.0)) c.requires.contexts.old
+    subst (λ (p : List Tagged). IsNameOf (g.S.TreeStore.names c.args.change.now.old.now) before p c.args.contexts.old) (sym (c.as_slice.ensures.value ∙ c.loop-lent.invariant.0)) c.requires.contexts.old
 
 -- nothing was at the key
 pub places_below-loop-lent-preserved-then-is_empty : goal.places_below-loop-lent-preserved-then-is_empty
@@ -118,7 +118,7 @@ places_below-loop-lent-preserved-then-is_empty g t c =
     let left : keys_lent c.loop-lent.keys.items ≡ keys_lent c.pop.new.self.items ++ k ∷ [] = ap keys_lent was ∙ lent_last c.pop.new.self.items c.in-Some.lent in
     let passed = subst (λ (ks : List Key). PassedBack (keys_lent c.in_ok-keys.keys.items) ks (seen at old) (seen at new) (differences_of c.loop-lent.effects)) left c.loop-lent.invariant.1 in
     let none : ids_at k (seen at old) ≡ [] =
-    ap (λ (p : List Tagged). ids_at k (seen p old)) (sym (c.as_slice-in-Some.ensures.value ∙ c.loop-lent.invariant.0)) ∙ sym c.ids_in.ensures.ids ∙ no_items c.ids_in.result.now c.is_empty.result c.is_empty.ensures c.if-is_empty.true in (
+    ap (λ (p : List Tagged). ids_at k (seen p old)) (sym (c.as_slice.ensures.value ∙ c.loop-lent.invariant.0)) ∙ sym c.ids_in.ensures.ids ∙ no_items c.ids_in.result.now c.is_empty.result c.is_empty.ensures c.if-is_empty.true in (
       c.loop-lent.invariant.0,
       passed_empty (keys_lent c.in_ok-keys.keys.items) (keys_lent c.pop.new.self.items) k (seen at old) (seen at new) (differences_of c.loop-lent.effects) c.in_ok-keys.ensures.rising passed c.requires.losses none,
     )
@@ -148,5 +148,5 @@ places_below-returns-clause-difference g t c =
     let none : c.loop-lent.keys.items ≡ [] = emptied c.loop-lent.keys.items c.pop.new.self.items c.pop.result c.in_default.is c.pop.ensures.items (λ h. c.pop.ensures.variant.1 (omega (arith, h, c.loop-lent.keys.ok.0))) in
     let passed = subst (λ (ks : List Key). PassedBack all ks (seen at old) (seen at new) (differences_of c.loop-lent.effects)) (ap keys_lent none) c.loop-lent.invariant.1 in
     let named = subst (IsNameOf (g.S.TreeStore.names c.args.change.now.old.now) before at) c.requires.named c.requires.contexts.old in
-    let keys : AllByRecursion (Contains all) (all_keys (here at before)) = subst (λ (p : List Tagged). AllByRecursion (Contains all) (all_keys (here p before))) c.as_slice.ensures.value c.in_ok-keys.ensures.all in
+    let keys : AllByRecursion (Contains all) (all_keys (here at before)) = c.in_ok-keys.ensures.all at named.1 in
     passed_all all (seen at old) (seen at new) (differences_of c.loop-lent.effects) (subst (λ z. AllByRecursion (Contains all) (all_keys z)) (sym (seen_here at before named.0)) keys) c.requires.losses passed

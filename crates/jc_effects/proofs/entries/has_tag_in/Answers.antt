@@ -16,16 +16,16 @@ pub returns-in-MapT : goal.returns-in-MapT
 returns-in-MapT g c =
     let tree = g.S.TreeStore.tree c.args.store.now in
     let named = subst (IsNameOf (g.S.TreeStore.names c.args.store.now) tree c.args.at.now) c.in-Some.is c.requires in
-    tag_read c.args.at.now (MapT c.in-MapT.key) tree _ named.0 (c.is_some.ensures ∙ c.map_by.ensures.some) ∙ ap (λ (u : Tagged). has_tag u (seen c.args.at.now tree.now)) (sym c.in-MapT.is)
+    tag_read c.args.at.now (MapT c.in-MapT.key) tree _ named.0 (c.is_some.ensures ∙ (c.map_by.ensures.some c.args.at.now named.1)) ∙ ap (λ (u : Tagged). has_tag u (seen c.args.at.now tree.now)) (sym c.in-MapT.is)
 
 pub returns-in-ListT : goal.returns-in-ListT
 returns-in-ListT g c =
     let tree = g.S.TreeStore.tree c.args.store.now in
     let named = subst (IsNameOf (g.S.TreeStore.names c.args.store.now) tree c.args.at.now) c.in-Some.is c.requires in
-    tag_read c.args.at.now (ListT c.in-ListT.key) tree _ named.0 (c.is_some-in-ListT.ensures ∙ c.list_by.ensures.some) ∙ ap (λ (u : Tagged). has_tag u (seen c.args.at.now tree.now)) (sym c.in-ListT.is)
+    tag_read c.args.at.now (ListT c.in-ListT.key) tree _ named.0 (c.is_some-in-ListT.ensures ∙ (c.list_by.ensures.some c.args.at.now named.1)) ∙ ap (λ (u : Tagged). has_tag u (seen c.args.at.now tree.now)) (sym c.in-ListT.is)
 
 pub returns-in-RegT : goal.returns-in-RegT
 returns-in-RegT g c =
     let tree = g.S.TreeStore.tree c.args.store.now in
     let named = subst (IsNameOf (g.S.TreeStore.names c.args.store.now) tree c.args.at.now) c.in-Some.is c.requires in
-    register_read c.args.at.now c.in-RegT.key tree _ _ named.0 c.register_at.ensures (c.is_some-in-RegT.ensures ∙ copied_some _) ∙ ap (λ (u : Tagged). has_tag u (seen c.args.at.now tree.now)) (sym c.in-RegT.is)
+    register_read c.args.at.now c.in-RegT.key tree _ _ named.0 (c.register_by.ensures c.args.at.now named.1) (c.is_some-in-RegT.ensures ∙ copied_some _) ∙ ap (λ (u : Tagged). has_tag u (seen c.args.at.now tree.now)) (sym c.in-RegT.is)

@@ -9,7 +9,7 @@ pub returns-in-Some : goal.returns-in-Some
 returns-in-Some g c =
     let tree = g.S.TreeStore.tree c.args.store.now in
     let named = subst (IsNameOf (g.S.TreeStore.names c.args.store.now) tree c.args.at.now) c.in-Some.is c.requires in
-    c.step_by.ensures.next ∙ ap (next c.args.key.now) (sym (seen_here c.args.at.now tree named.0))
+    (c.step_by.ensures.next c.args.at.now named.1) ∙ ap (next c.args.key.now) (sym (seen_here c.args.at.now tree named.0))
 
 pub returns-in-None : goal.returns-in-None
 returns-in-None g c =

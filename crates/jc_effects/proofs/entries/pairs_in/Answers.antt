@@ -14,16 +14,16 @@ pub returns-in-Some-register_by-clause-pairs : goal.returns-in-Some-register_by-
 returns-in-Some-register_by-clause-pairs g c =
     let tree = g.S.TreeStore.tree c.args.store.now in
     let named = subst (IsNameOf (g.S.TreeStore.names c.args.store.now) tree c.args.at.now) c.in-Some.is c.requires in
-    pairs_read c.args.at.now c.args.key.now tree _ named.0 (sym (ap option_copied c.in-Some-register_by.is) ∙ c.register_by.ensures)
+    pairs_read c.args.at.now c.args.key.now tree _ named.0 (sym (ap option_copied c.in-Some-register_by.is) ∙ (c.register_by.ensures c.args.at.now named.1))
 
 pub returns-in-Some-register_by-clause-formed : goal.returns-in-Some-register_by-clause-formed
 returns-in-Some-register_by-clause-formed g c =
     let tree = g.S.TreeStore.tree c.args.store.now in
     let named = subst (IsNameOf (g.S.TreeStore.names c.args.store.now) tree c.args.at.now) c.in-Some.is c.requires in
-    pairs_formed c.args.at.now c.args.key.now tree _ named.0 (g.met.S.TreeStore.kept c.args.store.now) (sym (ap option_copied c.in-Some-register_by.is) ∙ c.register_by.ensures)
+    pairs_formed c.args.at.now c.args.key.now tree _ named.0 (g.met.S.TreeStore.kept c.args.store.now) (sym (ap option_copied c.in-Some-register_by.is) ∙ (c.register_by.ensures c.args.at.now named.1))
 
 pub returns-in-None-clause-pairs : goal.returns-in-None-clause-pairs
 returns-in-None-clause-pairs g c =
     let tree = g.S.TreeStore.tree c.args.store.now in
     let named = subst (IsNameOf (g.S.TreeStore.names c.args.store.now) tree c.args.at.now) c.in-Some.is c.requires in
-    pairs_read c.args.at.now c.args.key.now tree None named.0 (sym (ap option_copied c.in-None.is) ∙ c.register_by.ensures)
+    pairs_read c.args.at.now c.args.key.now tree None named.0 (sym (ap option_copied c.in-None.is) ∙ (c.register_by.ensures c.args.at.now named.1))

@@ -8,19 +8,19 @@ pub returns-in-Some-clause-map : goal.returns-in-Some-clause-map
 returns-in-Some-clause-map g c =
     let tree = g.S.TreeStore.tree c.args.store.now in
     let named = subst (IsNameOf (g.S.TreeStore.names c.args.store.now) tree c.args.at.now) c.in-Some.is c.requires in
-    tag_read c.args.at.now (MapT c.args.key.now) tree _ named.0 (c.is_some.ensures ∙ c.map_by.ensures.some)
+    tag_read c.args.at.now (MapT c.args.key.now) tree _ named.0 (c.is_some.ensures ∙ (c.map_by.ensures.some c.args.at.now named.1))
 
 pub returns-in-Some-clause-list : goal.returns-in-Some-clause-list
 returns-in-Some-clause-list g c =
     let tree = g.S.TreeStore.tree c.args.store.now in
     let named = subst (IsNameOf (g.S.TreeStore.names c.args.store.now) tree c.args.at.now) c.in-Some.is c.requires in
-    tag_read c.args.at.now (ListT c.args.key.now) tree _ named.0 (c.is_some-in-Some.ensures ∙ c.list_by.ensures.some)
+    tag_read c.args.at.now (ListT c.args.key.now) tree _ named.0 (c.is_some-in-Some.ensures ∙ (c.list_by.ensures.some c.args.at.now named.1))
 
 pub returns-in-Some-clause-register : goal.returns-in-Some-clause-register
 returns-in-Some-clause-register g c =
     let tree = g.S.TreeStore.tree c.args.store.now in
     let named = subst (IsNameOf (g.S.TreeStore.names c.args.store.now) tree c.args.at.now) c.in-Some.is c.requires in
-    register_read c.args.at.now c.args.key.now tree _ _ named.0 c.register_at.ensures (c.is_some-in-Some-2.ensures ∙ copied_some _)
+    register_read c.args.at.now c.args.key.now tree _ _ named.0 (c.register_by.ensures c.args.at.now named.1) (c.is_some-in-Some-2.ensures ∙ copied_some _)
 
 pub returns-in-None-clause-map : goal.returns-in-None-clause-map
 returns-in-None-clause-map g c =

@@ -15,62 +15,62 @@ returns-in_err-child-in-List-clause-shown g c = λ names.
     let d = here c.args.at.now (g.S.TreeStore.tree c.args.store.now) in
     let key = c.args.key.now in
     let none : c.from_residual.result ≡ None = search rules in
-    ap (option_map (part_data names d)) none ∙ no_child_shown B.List key d names (sym c.in_err-child-in-List.ensures.some) ∙ ap (λ kind. find key_cmp key (shown_in names kind d)) (sym c.in-List.is)
+    ap (option_map (part_data names d)) none ∙ no_child_shown B.List key d names (sym (c.in_err-child-in-List.ensures.some c.args.at.now c.requires.named)) ∙ ap (λ kind. find key_cmp key (shown_in names kind d)) (sym c.in-List.is)
 
 pub returns-in_ok-child-in-List-clause-shown : goal.returns-in_ok-child-in-List-clause-shown
 returns-in_ok-child-in-List-clause-shown g c = λ names.
     let d = here c.args.at.now (g.S.TreeStore.tree c.args.store.now) in
     let key = c.args.key.now in
-    child_shown B.List key d names (sym c.in_ok-child-in-List.ensures.some) ∙ ap (λ kind. find key_cmp key (shown_in names kind d)) (sym c.in-List.is)
+    child_shown B.List key d names (sym (c.in_ok-child-in-List.ensures.some c.args.at.now c.requires.named)) ∙ ap (λ kind. find key_cmp key (shown_in names kind d)) (sym c.in-List.is)
 
 pub returns-in_err-child-in-Map-clause-shown : goal.returns-in_err-child-in-Map-clause-shown
 returns-in_err-child-in-Map-clause-shown g c = λ names.
     let d = here c.args.at.now (g.S.TreeStore.tree c.args.store.now) in
     let key = c.args.key.now in
     let none : c.from_residual-in_err-child-in-Map.result ≡ None = search rules in
-    ap (option_map (part_data names d)) none ∙ no_child_shown B.Map key d names (sym c.in_err-child-in-Map.ensures.some) ∙ ap (λ kind. find key_cmp key (shown_in names kind d)) (sym c.in-Map.is)
+    ap (option_map (part_data names d)) none ∙ no_child_shown B.Map key d names (sym (c.in_err-child-in-Map.ensures.some c.args.at.now c.requires.named)) ∙ ap (λ kind. find key_cmp key (shown_in names kind d)) (sym c.in-Map.is)
 
 pub returns-in_ok-child-in-Map-clause-shown : goal.returns-in_ok-child-in-Map-clause-shown
 returns-in_ok-child-in-Map-clause-shown g c = λ names.
     let d = here c.args.at.now (g.S.TreeStore.tree c.args.store.now) in
     let key = c.args.key.now in
-    child_shown B.Map key d names (sym c.in_ok-child-in-Map.ensures.some) ∙ ap (λ kind. find key_cmp key (shown_in names kind d)) (sym c.in-Map.is)
+    child_shown B.Map key d names (sym (c.in_ok-child-in-Map.ensures.some c.args.at.now c.requires.named)) ∙ ap (λ kind. find key_cmp key (shown_in names kind d)) (sym c.in-Map.is)
 
 pub returns-in_err-step_by-in-Next-clause-shown : goal.returns-in_err-step_by-in-Next-clause-shown
 returns-in_err-step_by-in-Next-clause-shown g c = λ names.
     let d = here c.args.at.now (g.S.TreeStore.tree c.args.store.now) in
     let key = c.args.key.now in
     let none : c.from_residual-in_err-step_by-in-Next.result ≡ None = search rules in
-    ap (option_map (part_data names d)) none ∙ value_shown (λ n. string (next_text names n)) key (links d) None (sym c.in_err-step_by-in-Next.was ∙ c.step_by.ensures.next) ∙ ap (λ kind. find key_cmp key (shown_in names kind d)) (sym c.in-Next.is)
+    ap (option_map (part_data names d)) none ∙ value_shown (λ n. string (next_text names n)) key (links d) None (sym c.in_err-step_by-in-Next.was ∙ (c.step_by.ensures.next c.args.at.now c.requires.named)) ∙ ap (λ kind. find key_cmp key (shown_in names kind d)) (sym c.in-Next.is)
 
 pub returns-in_ok-step_by-in-Next-clause-shown : goal.returns-in_ok-step_by-in-Next-clause-shown
 returns-in_ok-step_by-in-Next-clause-shown g c = λ names.
     let d = here c.args.at.now (g.S.TreeStore.tree c.args.store.now) in
     let key = c.args.key.now in
-    value_shown (λ n. string (next_text names n)) key (links d) (Some c.in_ok-step_by-in-Next.field-0) (sym c.in_ok-step_by-in-Next.was ∙ c.step_by.ensures.next) ∙ ap (λ kind. find key_cmp key (shown_in names kind d)) (sym c.in-Next.is)
+    value_shown (λ n. string (next_text names n)) key (links d) (Some c.in_ok-step_by-in-Next.field-0) (sym c.in_ok-step_by-in-Next.was ∙ (c.step_by.ensures.next c.args.at.now c.requires.named)) ∙ ap (λ kind. find key_cmp key (shown_in names kind d)) (sym c.in-Next.is)
 
 pub returns-in_err-presence_by-in-Presence-clause-shown : goal.returns-in_err-presence_by-in-Presence-clause-shown
 returns-in_err-presence_by-in-Presence-clause-shown g c = λ names.
     let d = here c.args.at.now (g.S.TreeStore.tree c.args.store.now) in
     let key = c.args.key.now in
     let none : c.from_residual-in_err-presence_by-in-Presence.result ≡ None = search rules in
-    ap (option_map (part_data names d)) none ∙ value_shown (ids_data names) key (presences d) None c.in_err-presence_by-in-Presence.ensures ∙ ap (λ kind. find key_cmp key (shown_in names kind d)) (sym c.in-Presence.is)
+    ap (option_map (part_data names d)) none ∙ value_shown (ids_data names) key (presences d) None (c.in_err-presence_by-in-Presence.ensures c.args.at.now c.requires.named) ∙ ap (λ kind. find key_cmp key (shown_in names kind d)) (sym c.in-Presence.is)
 
 pub returns-in_ok-presence_by-in-Presence-clause-shown : goal.returns-in_ok-presence_by-in-Presence-clause-shown
 returns-in_ok-presence_by-in-Presence-clause-shown g c = λ names.
     let d = here c.args.at.now (g.S.TreeStore.tree c.args.store.now) in
     let key = c.args.key.now in
-    value_shown (ids_data names) key (presences d) (Some c.in_ok-presence_by-in-Presence.field-0.now) c.in_ok-presence_by-in-Presence.ensures ∙ ap (λ kind. find key_cmp key (shown_in names kind d)) (sym c.in-Presence.is)
+    value_shown (ids_data names) key (presences d) (Some c.in_ok-presence_by-in-Presence.field-0.now) (c.in_ok-presence_by-in-Presence.ensures c.args.at.now c.requires.named) ∙ ap (λ kind. find key_cmp key (shown_in names kind d)) (sym c.in-Presence.is)
 
 pub returns-in_err-register_by-in-Register-clause-shown : goal.returns-in_err-register_by-in-Register-clause-shown
 returns-in_err-register_by-in-Register-clause-shown g c = λ names.
     let d = here c.args.at.now (g.S.TreeStore.tree c.args.store.now) in
     let key = c.args.key.now in
     let none : c.from_residual-in_err-register_by-in-Register.result ≡ None = search rules in
-    ap (option_map (part_data names d)) none ∙ value_shown (register_data names) key (registers d) None c.in_err-register_by-in-Register.ensures ∙ ap (λ kind. find key_cmp key (shown_in names kind d)) (sym c.in-Register.is)
+    ap (option_map (part_data names d)) none ∙ value_shown (register_data names) key (registers d) None (c.in_err-register_by-in-Register.ensures c.args.at.now c.requires.named) ∙ ap (λ kind. find key_cmp key (shown_in names kind d)) (sym c.in-Register.is)
 
 pub returns-in_ok-register_by-in-Register-clause-shown : goal.returns-in_ok-register_by-in-Register-clause-shown
 returns-in_ok-register_by-in-Register-clause-shown g c = λ names.
     let d = here c.args.at.now (g.S.TreeStore.tree c.args.store.now) in
     let key = c.args.key.now in
-    value_shown (register_data names) key (registers d) (Some c.in_ok-register_by-in-Register.field-0.now) c.in_ok-register_by-in-Register.ensures ∙ ap (λ kind. find key_cmp key (shown_in names kind d)) (sym c.in-Register.is)
+    value_shown (register_data names) key (registers d) (Some c.in_ok-register_by-in-Register.field-0.now) (c.in_ok-register_by-in-Register.ensures c.args.at.now c.requires.named) ∙ ap (λ kind. find key_cmp key (shown_in names kind d)) (sym c.in-Register.is)

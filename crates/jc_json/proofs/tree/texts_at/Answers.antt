@@ -37,4 +37,4 @@ returns-clause-texts g c =
     let from : AreTextsFrom names keys all = subst (λ ks. AreTextsFrom names (keys_lent ks) all) c.as_slice-3.ensures.value (c.in_ok-texts.ensures names joined) in
     let moved : IsPermutation all ts = c.in_ok-sort_by.ensures.permutation in
     let sorted : IsSortedBy is_below ts = sorted_by_texts ts c.in_ok-sort_by.ensures.sorted (λ a r q k. search rules) in
-    sorted_texts names (here c.args.at.now t) keys all ts kept c.in_ok-keys.ensures.rising c.in_ok-keys.ensures.all from moved sorted
+    sorted_texts names (here c.args.at.now t) keys all ts kept c.in_ok-keys.ensures.rising (c.in_ok-keys.ensures.all c.args.at.now c.requires.named) from moved sorted

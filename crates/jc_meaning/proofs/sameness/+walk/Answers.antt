@@ -29,29 +29,26 @@ is_not : (b : Bool) → false ≡ not b → b ≡ true
 is_not true e = refl
 is_not false e = cc
 
-pub same_child-below-requires-clause-there : goal.same_child-below-requires-clause-there
-same_child-below-requires-clause-there g t c = rw c.as_slice.ensures.value c.requires.left
-
 pub same_child-same_place-requires : goal.same_child-same_place-requires
 same_child-same_place-requires g t c κs within =
     let left = g.S.TreeStore.tree c.args.left.now in
     let right = g.T.TreeStore.tree c.args.right.now in
     let at = c.args.at.now.items in
     let tagged = c.args.tagged in
-    let some_left : is_some (content tagged (here at left)) ≡ true = sym (rw c.as_slice.ensures.value at c.in-Some.ensures.some ∙ some_content tagged (here at left) c.requires.node) in
-    let some_right : is_some (content tagged (here at right)) ≡ true = sym (rw c.as_slice-2.ensures.value at c.in-Some-below.ensures.some ∙ some_content tagged (here at right) c.requires.node) in
+    let some_left : is_some (content tagged (here at left)) ≡ true = sym (c.in-Some.ensures.some c.args.at.now.items c.requires.left_named ∙ some_content tagged (here at left) c.requires.node) in
+    let some_right : is_some (content tagged (here at right)) ≡ true = sym (c.in-Some-below.ensures.some c.args.at.now.items c.requires.right_named ∙ some_content tagged (here at right) c.requires.node) in
     let x : StandsBelow at tagged left = stands_below at tagged left c.requires.left c.requires.node some_left in
     let y : StandsBelow at tagged right = stands_below at tagged right c.requires.right c.requires.node some_right in
     let pushed : c.push.new.self.items ≡ at ++ tagged ∷ [] = search rules in
     let small : nested (here c.push.new.self.items left) < nested (here at left) = rw pushed x.smaller in
-    (omega (arith, small, c.decreases), (within.0, (within.1, (rw pushed x.there, (rw pushed y.there, (rw pushed (rw c.as_slice.ensures.value at c.in-Some.ensures.named), rw pushed (rw c.as_slice-2.ensures.value at c.in-Some-below.ensures.named)))))))
+    (omega (arith, small, c.decreases), (within.0, (within.1, (rw pushed x.there, (rw pushed y.there, (rw pushed (c.in-Some.ensures.named c.args.at.now.items c.requires.left_named), rw pushed (c.in-Some-below.ensures.named c.args.at.now.items c.requires.right_named)))))))
 
 pub same_child-returns-in_default-clause-same : goal.same_child-returns-in_default-clause-same
 same_child-returns-in_default-clause-same g t c =
     let left = g.S.TreeStore.tree c.args.left.now in
     let right = g.T.TreeStore.tree c.args.right.now in
     let at = c.args.at.now.items in
-    none_first (node_in (content c.args.tagged (here at left))) (node_in (content c.args.tagged (here at right))) c.is_none.result (sym (rw c.as_slice.ensures.value at c.in_default.ensures.some)) (flip (is_some c.below-in_default.result) c.is_none.result c.is_none.ensures ∙ ap not (rw c.as_slice-in_default.ensures.value at c.below-in_default.ensures.some))
+    none_first (node_in (content c.args.tagged (here at left))) (node_in (content c.args.tagged (here at right))) c.is_none.result (sym (c.in_default.ensures.some c.args.at.now.items c.requires.left_named)) (flip (is_some c.below-in_default.result) c.is_none.result c.is_none.ensures ∙ ap not (c.below-in_default.ensures.some c.args.at.now.items c.requires.right_named))
 
 pub same_child-returns-clause-same : goal.same_child-returns-clause-same
 same_child-returns-clause-same g t c =
@@ -59,8 +56,8 @@ same_child-returns-clause-same g t c =
     let right = g.T.TreeStore.tree c.args.right.now in
     let at = c.args.at.now.items in
     let tagged = c.args.tagged in
-    let some_left : is_some (content tagged (here at left)) ≡ true = sym (rw c.as_slice.ensures.value at c.in-Some.ensures.some ∙ some_content tagged (here at left) c.requires.node) in
-    let some_right : is_some (content tagged (here at right)) ≡ true = sym (rw c.as_slice-2.ensures.value at c.in-Some-below.ensures.some ∙ some_content tagged (here at right) c.requires.node) in
+    let some_left : is_some (content tagged (here at left)) ≡ true = sym (c.in-Some.ensures.some c.args.at.now.items c.requires.left_named ∙ some_content tagged (here at left) c.requires.node) in
+    let some_right : is_some (content tagged (here at right)) ≡ true = sym (c.in-Some-below.ensures.some c.args.at.now.items c.requires.right_named ∙ some_content tagged (here at right) c.requires.node) in
     let x : StandsBelow at tagged left = stands_below at tagged left c.requires.left c.requires.node some_left in
     let y : StandsBelow at tagged right = stands_below at tagged right c.requires.right c.requires.node some_right in
     let pushed : c.push.new.self.items ≡ at ++ tagged ∷ [] = search rules in
@@ -77,10 +74,8 @@ same_keys-returns-then-not-is_key-clause-same g t c =
     let at = c.args.at.now.items in
     let last = option_copied c.loop-key.last in
     let key = c.in-Some.key.now in
-    let el = c.as_slice.ensures.value ∙ c.loop-key.invariant.0 in
-    let er = c.as_slice-in-Some.ensures.value ∙ c.loop-key.invariant.0 in
-    let nl : least_after last (keys (here at left)) ≡ Some key = sym (c.in-Some.ensures ∙ ap (λ (s : List Tagged). least_after last (keys (here s left))) el) in
-    let nr : option_copied c.key_after_at-in-Some.result ≡ least_after last (keys (here at right)) = c.key_after_at-in-Some.ensures ∙ ap (λ (s : List Tagged). least_after last (keys (here s right))) er in
+    let nl : least_after last (keys (here at left)) ≡ Some key = sym (c.in-Some.ensures c.args.at.now.items c.requires.left_named) in
+    let nr : option_copied c.after_at-in-Some.result ≡ least_after last (keys (here at right)) = c.after_at-in-Some.ensures c.args.at.now.items c.requires.right_named in
     (λ s. cc, λ all. sym c.if-not-is_key.true ∙ c.is_key.ensures.1 (nr ∙ sym (next_same (here at left) (here at right) all last) ∙ nl))
 
 pub same_keys-loop-key-smaller : goal.same_keys-loop-key-smaller
@@ -89,8 +84,7 @@ same_keys-loop-key-smaller g t c =
     let d = here c.args.at.now.items left in
     let last = option_copied c.loop-key.last in
     let key = c.in-Some.key.now in
-    let e = c.as_slice.ensures.value ∙ c.loop-key.invariant.0 in
-    let n : IsNext last (keys d) key = next_is last (keys d) key (sym (c.in-Some.ensures ∙ ap (λ (s : List Tagged). least_after last (keys (here s left))) e)) in
+    let n : IsNext last (keys d) key = next_is last (keys d) key (sym (c.in-Some.ensures c.args.at.now.items c.requires.left_named)) in
     n.fewer
 
 pub same_keys-loop-key-preserved : goal.same_keys-loop-key-preserved
@@ -100,10 +94,8 @@ same_keys-loop-key-preserved g t c =
     let at = c.args.at.now.items in
     let last = option_copied c.loop-key.last in
     let key = c.in-Some.key.now in
-    let el = c.as_slice.ensures.value ∙ c.loop-key.invariant.0 in
-    let er = c.as_slice-in-Some.ensures.value ∙ c.loop-key.invariant.0 in
-    let nl : least_after last (keys (here at left)) ≡ Some key = sym (c.in-Some.ensures ∙ ap (λ (s : List Tagged). least_after last (keys (here s left))) el) in
-    let there : option_copied c.key_after_at-in-Some.result ≡ least_after last (keys (here at right)) = c.key_after_at-in-Some.ensures ∙ ap (λ (s : List Tagged). least_after last (keys (here s right))) er in
+    let nl : least_after last (keys (here at left)) ≡ Some key = sym (c.in-Some.ensures c.args.at.now.items c.requires.left_named) in
+    let there : option_copied c.after_at-in-Some.result ≡ least_after last (keys (here at right)) = c.after_at-in-Some.ensures c.args.at.now.items c.requires.right_named in
     let nr : least_after last (keys (here at right)) ≡ Some key = sym there ∙ c.is_key.ensures.0 c.if-not-is_key.false in
     let same : IsSameKey (here at left) (here at right) key = subst (λ (s : List Tagged). IsSameKey (here s left) (here s right) key) c.loop-key.invariant.0 (c.in_ok-same_key.ensures.same.0 c.if-not-branch.false) in
     (c.in_ok-same_key.ensures.place ∙ c.loop-key.invariant.0, both_go_on (here at left) (here at right) last key nl nr same c.loop-key.invariant.1)
@@ -114,12 +106,10 @@ same_keys-returns-clause-same g t c =
     let right = g.T.TreeStore.tree c.args.right.now in
     let at = c.args.at.now.items in
     let last = option_copied c.loop-key.last in
-    let el = c.as_slice.ensures.value ∙ c.loop-key.invariant.0 in
-    let er = c.as_slice-2.ensures.value ∙ c.loop-key.invariant.0 in
-    let nl : least_after last (keys (here at left)) ≡ None = sym (c.in_default.ensures ∙ ap (λ (s : List Tagged). least_after last (keys (here s left))) el) in
-    let nr : option_copied c.key_after_at-2.result ≡ least_after last (keys (here at right)) = c.key_after_at-2.ensures ∙ ap (λ (s : List Tagged). least_after last (keys (here s right))) er in (
-      λ s. both_end (here at left) (here at right) last nl (sym nr ∙ none_copied c.key_after_at-2.result (c.is_none.ensures ∙ ap not s)) c.loop-key.invariant.1,
-      λ all. is_not c.is_none.result (sym (copied_none c.key_after_at-2.result (nr ∙ sym (next_same (here at left) (here at right) all last) ∙ nl)) ∙ c.is_none.ensures),
+    let nl : least_after last (keys (here at left)) ≡ None = sym (c.in_default.ensures c.args.at.now.items c.requires.left_named) in
+    let nr : option_copied c.after_at-2.result ≡ least_after last (keys (here at right)) = c.after_at-2.ensures c.args.at.now.items c.requires.right_named in (
+      λ s. both_end (here at left) (here at right) last nl (sym nr ∙ none_copied c.after_at-2.result (c.is_none.ensures ∙ ap not s)) c.loop-key.invariant.1,
+      λ all. is_not c.is_none.result (sym (copied_none c.after_at-2.result (nr ∙ sym (next_same (here at left) (here at right) all last) ∙ nl)) ∙ c.is_none.ensures),
     )
 
 pub same_place-returns-then-not-same_presences-clause-same :

@@ -10,7 +10,7 @@ use Rattle.jc_meaning.proofs.sameness.has_links.Goals as goal
 pub loop-key-smaller : goal.loop-key-smaller
 loop-key-smaller g c =
     let left = here c.args.at.now (g.S.TreeStore.tree c.args.left.now) in
-    let n : IsNext (option_copied c.loop-key.last) (keys_of (links left)) c.in-Some.key.now = next_is (option_copied c.loop-key.last) (keys_of (links left)) c.in-Some.key.now (sym c.in-Some.ensures) in
+    let n : IsNext (option_copied c.loop-key.last) (keys_of (links left)) c.in-Some.key.now = next_is (option_copied c.loop-key.last) (keys_of (links left)) c.in-Some.key.now (sym (c.in-Some.ensures c.args.at.now c.requires.left_named)) in
     n.fewer
 
 pub loop-key-preserved : goal.loop-key-preserved
@@ -20,13 +20,13 @@ loop-key-preserved g c =
     let key = c.in-Some.key.now in
     let same : next key left ≡ next key right = search rules in
     let q : HasLink left right key = λ n e. sym same ∙ e in
-    goes_on (HasLink left right) (keys_of (links left)) (no_link left right) (option_copied c.loop-key.last) key (sym c.in-Some.ensures) q c.loop-key.invariant
+    goes_on (HasLink left right) (keys_of (links left)) (no_link left right) (option_copied c.loop-key.last) key (sym (c.in-Some.ensures c.args.at.now c.requires.left_named)) q c.loop-key.invariant
 
 pub returns : goal.returns
 returns g c =
     let left = here c.args.at.now (g.S.TreeStore.tree c.args.left.now) in
     let right = here c.args.at.now (g.T.TreeStore.tree c.args.right.now) in
-    let all = ends (HasLink left right) (keys_of (links left)) (no_link left right) (option_copied c.loop-key.last) (sym c.in_default.ensures) c.loop-key.invariant in
+    let all = ends (HasLink left right) (keys_of (links left)) (no_link left right) (option_copied c.loop-key.last) (sym (c.in_default.ensures c.args.at.now c.requires.left_named)) c.loop-key.invariant in
     (λ t. all, λ x. refl)
 
 pub returns-then-ne : goal.returns-then-ne
@@ -35,4 +35,4 @@ returns-then-ne g c =
     let right = here c.args.at.now (g.T.TreeStore.tree c.args.right.now) in
     let key = c.in-Some.key.now in
     let apart : next key left ≡ next key right → ⊥ = search rules in
-    (λ t. cc, λ all. absurd (links_apart left right (option_copied c.loop-key.last) key (sym c.in-Some.ensures) apart all))
+    (λ t. cc, λ all. absurd (links_apart left right (option_copied c.loop-key.last) key (sym (c.in-Some.ensures c.args.at.now c.requires.left_named)) apart all))

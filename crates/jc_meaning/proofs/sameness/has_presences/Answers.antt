@@ -10,7 +10,7 @@ use Rattle.jc_meaning.proofs.sameness.has_presences.Goals as goal
 pub loop-key-smaller : goal.loop-key-smaller
 loop-key-smaller g c =
     let left = here c.args.at.now (g.S.TreeStore.tree c.args.left.now) in
-    let n : IsNext (option_copied c.loop-key.last) (keys_of (presences left)) c.in-Some.key.now = next_is (option_copied c.loop-key.last) (keys_of (presences left)) c.in-Some.key.now (sym c.in-Some.ensures) in
+    let n : IsNext (option_copied c.loop-key.last) (keys_of (presences left)) c.in-Some.key.now = next_is (option_copied c.loop-key.last) (keys_of (presences left)) c.in-Some.key.now (sym (c.in-Some.ensures c.args.at.now c.requires.left_named)) in
     n.fewer
 
 pub loop-key-preserved : goal.loop-key-preserved
@@ -19,11 +19,11 @@ loop-key-preserved g c =
     let right = here c.args.at.now (g.T.TreeStore.tree c.args.right.now) in
     let key = c.in-Some.key.now in
     let q : HasPresence left right key = search rules in
-    goes_on (HasPresence left right) (keys_of (presences left)) (no_presence left right) (option_copied c.loop-key.last) key (sym c.in-Some.ensures) q c.loop-key.invariant
+    goes_on (HasPresence left right) (keys_of (presences left)) (no_presence left right) (option_copied c.loop-key.last) key (sym (c.in-Some.ensures c.args.at.now c.requires.left_named)) q c.loop-key.invariant
 
 pub returns : goal.returns
 returns g c =
     let left = here c.args.at.now (g.S.TreeStore.tree c.args.left.now) in
     let right = here c.args.at.now (g.T.TreeStore.tree c.args.right.now) in
-    let all = ends (HasPresence left right) (keys_of (presences left)) (no_presence left right) (option_copied c.loop-key.last) (sym c.in_default.ensures) c.loop-key.invariant in
+    let all = ends (HasPresence left right) (keys_of (presences left)) (no_presence left right) (option_copied c.loop-key.last) (sym (c.in_default.ensures c.args.at.now c.requires.left_named)) c.loop-key.invariant in
     (λ t. all, λ x. refl)

@@ -36,12 +36,9 @@ use Rattle.jc_view.proofs.PresentLemmas.{place_is}
 use Rattle.jc_view.proofs.document.+walk.Goals as goal
 use Rattle.jc_view.proofs.document.+walk.Goals.{write_child-then-list+in_ok-write_list, write_child-else-list+in_ok-write_map}
 
-pub write_child-below-requires-clause-there : goal.write_child-below-requires-clause-there
-write_child-below-requires-clause-there g t c = rw c.as_slice.ensures.value c.requires.there
-
 pub write_child-unreachable-requires : goal.write_child-unreachable-requires
 write_child-unreachable-requires g t c =
-    let e = rw c.as_slice.ensures.value at c.in_default.ensures.some in
+    let e = c.in_default.ensures.some c.args.at.now.items c.requires.named in
     let no : false ≡ true = e ∙ some_content c.args.tagged (here c.args.at.now.items (g.S.TreeStore.tree c.args.store.now)) c.requires.node ∙ c.requires.some in
     cc
 
@@ -53,7 +50,7 @@ write_child-write_list-requires g t c κs within =
     let x : StandsBelow at tagged tree = stands_below at tagged tree c.requires.there c.requires.node c.requires.some in
     let pushed : c.push.new.self.items ≡ at ++ tagged ∷ [] = search rules in
     let small : nested (here c.push.new.self.items tree) < nested (here at tree) = rw pushed x.smaller in
-    (omega (arith, small, c.decreases), (within, (rw pushed x.there, (rw pushed (rw c.as_slice.ensures.value at c.in-Some.ensures.named), c.requires.chained))))
+    (omega (arith, small, c.decreases), (within, (rw pushed x.there, (rw pushed (c.in-Some.ensures.named c.args.at.now.items c.requires.named), c.requires.chained))))
 
 pub write_child-write_map-requires : goal.write_child-write_map-requires
 write_child-write_map-requires g t c κs within =
@@ -63,7 +60,7 @@ write_child-write_map-requires g t c κs within =
     let x : StandsBelow at tagged tree = stands_below at tagged tree c.requires.there c.requires.node c.requires.some in
     let pushed : c.push.new.self.items ≡ at ++ tagged ∷ [] = search rules in
     let small : nested (here c.push.new.self.items tree) < nested (here at tree) = rw pushed x.smaller in
-    (omega (arith, small, c.decreases), (within, (rw pushed x.there, (rw pushed (rw c.as_slice.ensures.value at c.in-Some.ensures.named), c.requires.chained))))
+    (omega (arith, small, c.decreases), (within, (rw pushed x.there, (rw pushed (c.in-Some.ensures.named c.args.at.now.items c.requires.named), c.requires.chained))))
 
 pub write_child-returns-clause-written : goal.write_child-returns-clause-written
 write_child-returns-clause-written g t c =
@@ -175,8 +172,7 @@ write_map-loop-key-smaller g t c =
     let d = here c.args.at.now.items tree in
     let last = option_copied c.loop-key.last in
     let key = c.in-Some.key.now in
-    let e = c.as_slice.ensures.value ∙ c.loop-key.invariant.0 in
-    let n : IsNext last (keys_of (presences d)) key = next_is last (keys_of (presences d)) key (sym (c.in-Some.ensures ∙ ap (λ (s : List Tagged). least_after last (keys_of (presences (here s tree)))) e)) in
+    let n : IsNext last (keys_of (presences d)) key = next_is last (keys_of (presences d)) key (sym (c.in-Some.ensures c.args.at.now.items c.requires.named)) in
     n.fewer
 
 pub write_map-loop-key-preserved : goal.write_map-loop-key-preserved
@@ -188,8 +184,7 @@ write_map-loop-key-preserved g t c =
     let goes = goes_by c.args.replica.now.history.now in
     let last = option_copied c.loop-key.last in
     let key = c.in-Some.key.now in
-    let e = c.as_slice.ensures.value ∙ c.loop-key.invariant.0 in
-    let n : IsNext last (keys_of (presences d)) key = next_is last (keys_of (presences d)) key (sym (c.in-Some.ensures ∙ ap (λ (s : List Tagged). least_after last (keys_of (presences (here s tree)))) e)) in
+    let n : IsNext last (keys_of (presences d)) key = next_is last (keys_of (presences d)) key (sym (c.in-Some.ensures c.args.at.now.items c.requires.named)) in
     let kept : IsWellFormedContext d = kept_at at tree.now c.requires.there (g.met.S.TreeStore.kept c.args.store.now) in
     let gains : Gains c.loop-key.out c.write_member.new.out (member_shown (parts_shown_at names goes at d) key d) =
     subst (λ (s : List Tagged). Gains c.loop-key.out c.write_member.new.out (member_shown (parts_shown_at names goes s (here s tree)) key (here s tree))) c.loop-key.invariant.0 c.in_ok-write_member.ensures.written in (
@@ -205,9 +200,8 @@ write_map-returns-clause-written g t c =
     let goes = goes_by c.args.replica.now.history.now in
     let d = here at tree in
     let last = option_copied c.loop-key.last in
-    let e = c.as_slice.ensures.value ∙ c.loop-key.invariant.0 in
     let all : AllByRecursion (λ j. is_after last j ≡ false) (keys_of (presences d)) =
-    none_is last (keys_of (presences d)) (sym (c.in_default.ensures ∙ ap (λ (s : List Tagged). least_after last (keys_of (presences (here s tree)))) e)) in
+    none_is last (keys_of (presences d)) (sym (c.in_default.ensures c.args.at.now.items c.requires.named)) in
     let begun : Gains c.args.out.now c.begin_object.new.self (T.begin_object ∷ []) = search rules in
     let written = wrote_end _ _ _ (map_ends (parts_shown_at names goes at d) d last _ _ all c.loop-key.invariant.1) in
     on_ok_weaker c.end_object.result

@@ -13,7 +13,7 @@ pub returns-then-is_none : goal.returns-then-is_none
 returns-then-is_none g c =
     let d = here c.args.at.now (g.S.TreeStore.tree c.args.store.now) in
     let tagged = c.args.tagged.now in
-    let absent : is_some (content tagged d) ≡ false = sym (c.below.ensures.some ∙ some_content tagged d c.requires.node) ∙ c.is_none.ensures ∙ ap not c.if-is_none.true in
+    let absent : is_some (content tagged d) ≡ false = sym ((c.below.ensures.some c.args.at.now c.requires.named) ∙ some_content tagged d c.requires.node) ∙ c.is_none.ensures ∙ ap not c.if-is_none.true in
     rw absent refl
 
 pub returns-in-Some : goal.returns-in-Some
@@ -24,7 +24,7 @@ returns-in-Some g c =
     let tagged = c.args.tagged.now in
     let goes = goes_by c.args.replica.now.history.now in
     let kept : IsWellFormedContext d = kept_at at t.now c.requires.there (g.met.S.TreeStore.kept c.args.store.now) in
-    let there : is_some (content tagged d) ≡ true = sym (c.below.ensures.some ∙ some_content tagged d c.requires.node) ∙ c.is_none.ensures ∙ ap not c.if-is_none.false in
+    let there : is_some (content tagged d) ≡ true = sym ((c.below.ensures.some c.args.at.now c.requires.named) ∙ some_content tagged d c.requires.node) ∙ c.is_none.ensures ∙ ap not c.if-is_none.false in
     let alive = alive_by goes at tagged (presences d) (Some c.in-Some.ids.now) (presences_rise d kept) (search rules) in
     c.is_alive.ensures ∙ alive ∙ ap (λ b. b && is_alive goes at (present (presences d)) tagged) (sym there)
 
@@ -36,6 +36,6 @@ returns-in-None g c =
     let tagged = c.args.tagged.now in
     let goes = goes_by c.args.replica.now.history.now in
     let kept : IsWellFormedContext d = kept_at at t.now c.requires.there (g.met.S.TreeStore.kept c.args.store.now) in
-    let there : is_some (content tagged d) ≡ true = sym (c.below.ensures.some ∙ some_content tagged d c.requires.node) ∙ c.is_none.ensures ∙ ap not c.if-is_none.false in
+    let there : is_some (content tagged d) ≡ true = sym ((c.below.ensures.some c.args.at.now c.requires.named) ∙ some_content tagged d c.requires.node) ∙ c.is_none.ensures ∙ ap not c.if-is_none.false in
     let alive = alive_by goes at tagged (presences d) None (presences_rise d kept) (search rules) in
     alive ∙ ap (λ b. b && is_alive goes at (present (presences d)) tagged) (sym there)

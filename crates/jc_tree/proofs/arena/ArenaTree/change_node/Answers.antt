@@ -6,7 +6,7 @@ use Rattle.jc_tree.specs.declared.arena.Undo.{Undo}
 use Rattle.jc_tree.proofs.ArenaChangesLemmas.{Changes, with_change, inside_changes}
 use Rattle.jc_tree.proofs.ArenaHistoryLemmas.{good_pushed, changed_tree}
 use Rattle.jc_tree.proofs.ArenaCallsLemmas.{nodes_changed, former_there, pushed_ok}
-use Rattle.jc_tree.proofs.ArenaPlacesLemmas.{numbers_stay}
+use Rattle.jc_tree.proofs.ArenaPlacesLemmas.{numbers_stay, nodes_stay}
 use Rattle.jc_tree.proofs.UndoLemmas.{pushed}
 use Rattle.jc_tree.proofs.arena.ArenaTree.change_node.Goals as goal
 
@@ -38,10 +38,11 @@ returns-clause-ok c at path =
     let all : c.push.new.self.items ≡ self.undos.items ++ undo ∷ [] = pushed_ok c.push.result _ c.reserve.new.self.items c.push.new.self.items undo c.unwrap.ensures c.push.ensures.items ∙ ap (λ us. us ++ undo ∷ []) c.in_ok-reserve.ensures.items in
     rw (c.number-number.ensures, made) (changed_tree ns (with_change c.args.change i ns) self.undos.items c.push.new.self.items undo at _ here all)
 
-pub returns-clause-numbers : goal.returns-clause-numbers
-returns-clause-numbers c at =
+pub returns-clause-names_stay : goal.returns-clause-names_stay
+returns-clause-names_stay c p at named =
     let self = c.args.self.now in
     let ns = self.nodes.items in
     let i = c.args.node in
     let made = nodes_changed ns i c.args.change c.index_mut.result.now c.change.new.self (rw c.number-number.ensures at c.index_mut.ensures.value) c.requires.within c.in_ok-former.ensures.ok in
-    rw (c.number-number.ensures, made) (numbers_stay ns i c.args.change self.good c.requires.within at)
+    let change = inside_changes ns c.requires.there.0 i c.args.change self.good c.requires.there.1 c.requires.within c.requires.inside c.requires.fit in
+    rw (c.number-number.ensures, made) (nodes_stay ns (with_change c.args.change i ns) change.good (numbers_stay ns i c.args.change self.good c.requires.within) at p.number named)

@@ -7,12 +7,7 @@ use Rattle.jc_tree.proofs.ArenaStepsLemmas.{read_at}
 use Rattle.jc_tree.proofs.ArenaPlacesLemmas.{place_inside}
 use Rattle.jc_tree.proofs.arena.ArenaTreeTreeStore.presence_by.Goals as goal
 
-pub node-requires : goal.node-requires
-node-requires c =
-    let self = c.args.self.now in
-    rw c.new.ensures (place_inside self.nodes.items c.args.at.now c.args.place.number self.good c.requires.named)
-
 pub returns : goal.returns
-returns c =
+returns c at named =
     let self = c.args.self.now in
-    read_at (λ d. presence c.args.key.now d) (λ (n : Flat). find key_cmp c.args.key.now n.presences) self.nodes.items c.args.at.now c.args.place.number c.node.result.now _ self.good c.requires.named (place_inside self.nodes.items c.args.at.now c.args.place.number self.good c.requires.named) (rw c.new.ensures at c.node.ensures) (λ g n. refl) c.presence_near.ensures
+    read_at (λ d. presence c.args.key.now d) (λ (n : Flat). find key_cmp c.args.key.now n.presences) self.nodes.items at c.args.place.number c.named.result.now _ self.good named.walk (place_inside self.nodes.items at c.args.place.number self.good named.walk) c.named.ensures (λ g n. refl) c.presence_near.ensures

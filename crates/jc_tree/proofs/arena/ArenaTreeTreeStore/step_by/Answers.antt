@@ -8,17 +8,12 @@ use Rattle.jc_tree.proofs.ArenaStepsLemmas.{read_at}
 use Rattle.jc_tree.proofs.ArenaPlacesLemmas.{place_inside}
 use Rattle.jc_tree.proofs.arena.ArenaTreeTreeStore.step_by.Goals as goal
 
-pub node-requires : goal.node-requires
-node-requires c =
-    let self = c.args.self.now in
-    rw c.new.ensures (place_inside self.nodes.items c.args.at.now c.args.place.number self.good c.requires.named)
-
 pub returns-clause-next : goal.returns-clause-next
-returns-clause-next c =
+returns-clause-next c at named =
     let self = c.args.self.now in
-    read_at (λ d. next c.args.key.now d) (λ (n : Flat). find key_cmp c.args.key.now n.links) self.nodes.items c.args.at.now c.args.place.number c.node.result.now _ self.good c.requires.named (place_inside self.nodes.items c.args.at.now c.args.place.number self.good c.requires.named) (rw c.new.ensures at c.node.ensures) (λ g n. refl) c.step.ensures.next
+    read_at (λ d. next c.args.key.now d) (λ (n : Flat). find key_cmp c.args.key.now n.links) self.nodes.items at c.args.place.number c.named.result.now _ self.good named.walk (place_inside self.nodes.items at c.args.place.number self.good named.walk) c.named.ensures (λ g n. refl) c.step.ensures.next
 
 pub returns-clause-present : goal.returns-clause-present
-returns-clause-present c =
+returns-clause-present c at named =
     let self = c.args.self.now in
-    read_at (λ d. has_ids (or_no_entries (presence c.args.key.now d))) (λ (n : Flat). has_ids (or_no_entries (find key_cmp c.args.key.now n.presences))) self.nodes.items c.args.at.now c.args.place.number c.node.result.now _ self.good c.requires.named (place_inside self.nodes.items c.args.at.now c.args.place.number self.good c.requires.named) (rw c.new.ensures at c.node.ensures) (λ g n. refl) c.step.ensures.present
+    read_at (λ d. has_ids (or_no_entries (presence c.args.key.now d))) (λ (n : Flat). has_ids (or_no_entries (find key_cmp c.args.key.now n.presences))) self.nodes.items at c.args.place.number c.named.result.now _ self.good named.walk (place_inside self.nodes.items at c.args.place.number self.good named.walk) c.named.ensures (λ g n. refl) c.step.ensures.present

@@ -6,16 +6,11 @@ use Rattle.jc_tree.proofs.ArenaPlacesLemmas.{place_inside}
 use Rattle.jc_tree.proofs.StretchesLemmas.{over_read}
 use Rattle.jc_tree.proofs.arena.ArenaTreeTreeStore.stretch_by.Goals as goal
 
-pub node-requires : goal.node-requires
-node-requires c =
-    let self = c.args.self.now in
-    rw c.new.ensures (place_inside self.nodes.items c.args.at.now c.args.place.number self.good c.requires.named)
-
 pub returns-clause-over : goal.returns-clause-over
-returns-clause-over c =
+returns-clause-over c at named =
     let self = c.args.self.now in
-    let inside = place_inside self.nodes.items c.args.at.now c.args.place.number self.good c.requires.named in
+    let inside = place_inside self.nodes.items at c.args.place.number self.good named.walk in
     over_read c.stretch.result c.args.key.now _ _ _ _
-    (read_at (λ d. links d) (λ (n : Flat). n.links) self.nodes.items c.args.at.now c.args.place.number c.node.result.now _ self.good c.requires.named inside (rw c.new.ensures at c.node.ensures) (λ g n. refl) refl)
-    (read_at (λ d. presences d) (λ (n : Flat). n.presences) self.nodes.items c.args.at.now c.args.place.number c.node.result.now _ self.good c.requires.named inside (rw c.new.ensures at c.node.ensures) (λ g n. refl) refl)
+    (read_at (λ d. links d) (λ (n : Flat). n.links) self.nodes.items at c.args.place.number c.named.result.now _ self.good named.walk inside c.named.ensures (λ g n. refl) refl)
+    (read_at (λ d. presences d) (λ (n : Flat). n.presences) self.nodes.items at c.args.place.number c.named.result.now _ self.good named.walk inside c.named.ensures (λ g n. refl) refl)
     c.stretch.ensures.over
