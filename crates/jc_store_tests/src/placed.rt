@@ -180,10 +180,7 @@ impl<S: TreeStore> Placed<S> {
         let Some(place) = name_of(&self.store, at) else {
             return Ok(false);
         };
-        let was = self
-            .store
-            .register_by(place, key, ANYWHERE)
-            .is_some();
+        let was = self.store.register_by(place, key, ANYWHERE).is_some();
         let told = self.store.put_value_at(place, key, id, value)?;
         Ok(told == was && name_of(&self.store, at) == Some(place))
     }
