@@ -10,8 +10,8 @@ ghost use Rattle.jc_tree.specs.Tree.{Tree, HasPlace, here};
 ghost use Rattle.jc_clear.specs.Cleared.{IsCleared};
 ghost use Rattle.jc_clear.specs.Clears.{Clears};
 
-use jc_rules::{Key, Rule, Tagged, Trace};
-use jc_tree::{Hint, Place, TreeStore};
+use jc_rules::{Rule, Trace};
+use jc_tree::{KeyAt, TreeStore};
 use std::alloc::AllocError;
 
 /// Whether there is a list, with nothing in it.
@@ -24,22 +24,19 @@ fn is_empty<X>(items: Option<&[X]>) -> bool
     }
 }
 
-/// Whether the key in the context at the place has an empty presence set and an empty register, and nothing else.
+/// Whether the key has an empty presence set and an empty register, and nothing else.
 pub(crate) fn is_cleared<S: TreeStore>(
     store: &S,
-    place: Place,
-    at: &[Tagged],
-    key: &Key,
-    hint: Hint,
+    key: KeyAt<'_>,
 ) -> bool
-    requires there { HasPlace at.now (S.tree store.now) }
-    requires named { S.names store.now place at.now }
-    ensures { IsTrue result → IsCleared key.now (here at.now (S.tree store.now)) }
+    requires { (at : List AnyTagged) × S.names store.now key.place at }
+    ensures { (at : List AnyTagged) → S.names store.now key.entry.place at
+        → IsTrue result → IsCleared key.entry.key.now (here at (S.tree store.now)) }
 {
-    is_empty(store.presence_by(place, key, hint))
-        && is_empty(store.register_by(place, key, hint))
-        && store.map_by(place, key, hint).is_none()
-        && store.list_by(place, key, hint).is_none()
+    is_empty(store.presence_by(key.place, key.key, key.hint))
+        && is_empty(store.register_by(key.place, key.key, key.hint))
+        && store.map_by(key.place, key.key, key.hint).is_none()
+        && store.list_by(key.place, key.key, key.hint).is_none()
 }
 
 /// Adds the rules by which such a key is cleared.

@@ -4,6 +4,7 @@
 ghost use Rattle.std.specs.Prelude.{◌≡◌, [], List, Some, IfOk, OnOk, OnErr};
 ghost use Rattle.jc_rules.specs.declared.id.Id.{Id as AnyId};
 ghost use Rattle.jc_rules.specs.declared.key.Key.TheVariants.{Head};
+ghost use Rattle.jc_rules.specs.declared.key.Tagged.{Tagged as AnyTagged};
 ghost use Rattle.jc_rules.specs.declared.key.Tagged.TheVariants.{MapT, ListT};
 ghost use Rattle.jc_rules.specs.declared.operation.Op.{Op as AnyOp};
 ghost use Rattle.jc_rules.specs.Derivation.{Clear, ClearAny, ClearElem, ClearList, ClearMap};
@@ -23,7 +24,7 @@ use crate::cleared::{is_cleared, push_cleared};
 use crate::registers::{clear_register, presence_of, put_presence};
 use crate::sets::{left_out, united};
 use jc_rules::{Id, IdSet, Key, Next, Rule, Tagged, Trace};
-use jc_tree::{ANYWHERE, Hint, Place, TreeStore, place_of};
+use jc_tree::{ANYWHERE, Hint, KeyAt, Place, TreeStore, place_of};
 use std::alloc::{AllocError, Global};
 
 /// Clears a key under each tag, and takes the dependencies out of its presence set. A key that was cleared before, and
@@ -33,32 +34,28 @@ fn elem_in<S: TreeStore>(
     alloc: Global,
     store: &mut S,
     deps: &IdSet,
-    place: Place,
-    at: &mut Vec<Tagged>,
-    key: &Key,
-    hint: Hint,
+    key: KeyAt<'_>,
     trace: &mut Trace,
 ) -> Result<Vec<Id>, AllocError>
-    requires there { HasPlace at.old.items (S.tree store.old) }
-    requires named { S.names store.old place at.old.items }
-    requires chained { AreChainedBelow (here at.old.items (S.tree store.old)) }
-    ensures ok { IfOk result (λ ids. Clears (λ c. ClearElem c deps.now key.now)
-        at.old.items (S.tree store.old) (S.tree store.new) ids.items trace.old trace.new) }
-    ensures path { OnOk result (at.new.items ≡ at.old.items) }
+    requires { (at : List AnyTagged) × S.names store.old key.place at
+        × AreChainedBelow (here at (S.tree store.old)) }
+    ensures ok { (at : List AnyTagged) → S.names store.old key.entry.place at
+        → IfOk result (λ ids. Clears (λ c. ClearElem c deps.now key.entry.key.now)
+        at (S.tree store.old) (S.tree store.new) ids.items trace.old trace.new) }
     ensures names_stay { NamesStay (S.names store.old) (S.names store.new) }
     ensures kept { TreeCanGoBack (S.tree store.old) (S.tree store.new) trace.old trace.new }
 {
-    if is_cleared(store, place, at.as_slice(), key, hint) {
+    if is_cleared(store, key) {
         push_cleared(trace)?;
         return Ok(Vec::new(alloc));
     }
     let depth = trace.depth();
     trace.open(Rule::ClearElem)?;
-    let below = any_in(alloc, store, deps, place, at, key, hint, trace)?;
-    let present = presence_of(alloc, store, place, at.as_slice(), key, hint, trace)?;
+    let below = any_in(alloc, store, deps, key, trace)?;
+    let present = presence_of(alloc, store, key, trace)?;
     let all = united(below, present.as_slice())?;
     let ids = left_out(alloc, all.as_slice(), deps)?;
-    put_presence(store, place, at.as_slice(), key, hint, ids.as_slice())?;
+    put_presence(store, key, ids.as_slice())?;
     trace.close(depth);
     Ok(ids)
 }
@@ -69,26 +66,22 @@ fn any_in<S: TreeStore>(
     alloc: Global,
     store: &mut S,
     deps: &IdSet,
-    place: Place,
-    at: &mut Vec<Tagged>,
-    key: &Key,
-    hint: Hint,
+    key: KeyAt<'_>,
     trace: &mut Trace,
 ) -> Result<Vec<Id>, AllocError>
-    requires there { HasPlace at.old.items (S.tree store.old) }
-    requires named { S.names store.old place at.old.items }
-    requires chained { AreChainedBelow (here at.old.items (S.tree store.old)) }
-    ensures ok { IfOk result (λ ids. Clears (λ c. ClearAny c deps.now key.now)
-        at.old.items (S.tree store.old) (S.tree store.new) ids.items trace.old trace.new) }
-    ensures path { OnOk result (at.new.items ≡ at.old.items) }
+    requires { (at : List AnyTagged) × S.names store.old key.place at
+        × AreChainedBelow (here at (S.tree store.old)) }
+    ensures ok { (at : List AnyTagged) → S.names store.old key.entry.place at
+        → IfOk result (λ ids. Clears (λ c. ClearAny c deps.now key.entry.key.now)
+        at (S.tree store.old) (S.tree store.new) ids.items trace.old trace.new) }
     ensures names_stay { NamesStay (S.names store.old) (S.names store.new) }
     ensures kept { TreeCanGoBack (S.tree store.old) (S.tree store.new) trace.old trace.new }
 {
     let depth = trace.depth();
     trace.open(Rule::ClearAny)?;
-    let maps = clear_map(alloc, store, deps, place, at, key, hint, trace)?;
-    let lists = clear_list(alloc, store, deps, place, at, key, hint, trace)?;
-    let values = clear_register(alloc, store, deps, place, at.as_slice(), key, hint, trace)?;
+    let maps = clear_map(alloc, store, deps, key, trace)?;
+    let lists = clear_list(alloc, store, deps, key, trace)?;
+    let values = clear_register(alloc, store, deps, key, trace)?;
     let rest = united(lists, values.as_slice())?;
     let ids = united(maps, rest.as_slice())?;
     trace.close(depth);
@@ -101,43 +94,37 @@ fn clear_map<S: TreeStore>(
     alloc: Global,
     store: &mut S,
     deps: &IdSet,
-    place: Place,
-    at: &mut Vec<Tagged>,
-    key: &Key,
-    hint: Hint,
+    key: KeyAt<'_>,
     trace: &mut Trace,
 ) -> Result<Vec<Id>, AllocError>
-    requires there { HasPlace at.old.items (S.tree store.old) }
-    requires named { S.names store.old place at.old.items }
-    requires chained { AreChainedBelow (here at.old.items (S.tree store.old)) }
-    ensures ok { IfOk result (λ ids. Clears (λ c. Clear c deps.now (MapT key.now))
-        at.old.items (S.tree store.old) (S.tree store.new) ids.items trace.old trace.new) }
-    ensures path { OnOk result (at.new.items ≡ at.old.items) }
+    requires { (at : List AnyTagged) × S.names store.old key.place at
+        × AreChainedBelow (here at (S.tree store.old)) }
+    ensures ok { (at : List AnyTagged) → S.names store.old key.entry.place at
+        → IfOk result (λ ids. Clears (λ c. Clear c deps.now (MapT key.entry.key.now))
+        at (S.tree store.old) (S.tree store.new) ids.items trace.old trace.new) }
     ensures names_stay { NamesStay (S.names store.old) (S.names store.new) }
     ensures kept { TreeCanGoBack (S.tree store.old) (S.tree store.new) trace.old trace.new }
 {
-    let Some(child) = store.map_by(place, key, hint) else {
+    let Some(child) = store.map_by(key.place, key.key, key.hint) else {
         trace.push(Rule::ClearNone)?;
         return Ok(Vec::new(alloc));
     };
     let depth = trace.depth();
-    at.push(Tagged::MapT(key.copy()?))?;
     trace.open(Rule::ClearMap1)?;
-    let ids = map_in(alloc, store, deps, child, at, trace)?;
-    drop(at.pop());
+    let ids = map_in(alloc, store, deps, child, trace)?;
     trace.close(depth);
     Ok(ids)
 }
 
-/// Whether the key has a map, a list or a register in the context at the place.
-fn has_content<S: TreeStore>(store: &S, place: Place, at: &[Tagged], key: &Key, hint: Hint) -> bool
-    requires there { HasPlace at.now (S.tree store.now) }
-    requires named { S.names store.now place at.now }
-    ensures { result ≡ has_content (here at.now (S.tree store.now)) key.now }
+/// Whether there is a map, a list or a register under the key.
+fn has_content<S: TreeStore>(store: &S, key: KeyAt<'_>) -> bool
+    requires { (at : List AnyTagged) × S.names store.now key.place at }
+    ensures { (at : List AnyTagged) → S.names store.now key.entry.place at
+        → result ≡ has_content (here at (S.tree store.now)) key.entry.key.now }
 {
-    store.register_by(place, key, hint).is_some()
-        || store.map_by(place, key, hint).is_some()
-        || store.list_by(place, key, hint).is_some()
+    store.register_by(key.place, key.key, key.hint).is_some()
+        || store.map_by(key.place, key.key, key.hint).is_some()
+        || store.list_by(key.place, key.key, key.hint).is_some()
 }
 
 /// Clears the first keys of the map at the place as long as they were cleared before, and returns those behind them that
@@ -146,22 +133,25 @@ fn clear_first<S: TreeStore>(
     alloc: Global,
     store: &S,
     place: Place,
-    at: &[Tagged],
     trace: &mut Trace,
 ) -> Result<Vec<(Key, Hint)>, AllocError>
-    requires there { HasPlace at.now (S.tree store.now) }
-    requires named { S.names store.now place at.now }
-    ensures through { IfOk result (λ keys. (deps : List AnyId)
-        → ThroughKeys deps at.now (S.tree store.now) trace.old (S.tree store.now) (keys_of keys.items) [] trace.new) }
+    requires { (at : List AnyTagged) × S.names store.now place at }
+    ensures through { (at : List AnyTagged) → S.names store.now place at → IfOk result (λ keys. (deps : List AnyId)
+        → ThroughKeys deps at (S.tree store.now) trace.old (S.tree store.now) (keys_of keys.items) [] trace.new) }
     ensures kept { TreeCanGoBack (S.tree store.now) (S.tree store.now) trace.old trace.new }
 {
     let keys = store.keys_at(alloc, place)?;
     let mut left = Vec::new(alloc);
     for lent in keys.as_slice() {
-        if left.is_empty() && is_cleared(store, place, at, lent.0, lent.1) {
+        let key = KeyAt {
+            place,
+            key: lent.0,
+            hint: lent.1,
+        };
+        if left.is_empty() && is_cleared(store, key) {
             trace.open(Rule::ClearMap2)?;
             push_cleared(trace)?;
-        } else if has_content(store, place, at, lent.0, lent.1) {
+        } else if has_content(store, key) {
             left.push((lent.0.copy()?, lent.1))?;
         }
     }
@@ -175,24 +165,27 @@ fn map_in<S: TreeStore>(
     store: &mut S,
     deps: &IdSet,
     place: Place,
-    at: &mut Vec<Tagged>,
     trace: &mut Trace,
 ) -> Result<Vec<Id>, AllocError>
-    requires there { HasPlace at.old.items (S.tree store.old) }
-    requires named { S.names store.old place at.old.items }
-    requires chained { AreChainedBelow (here at.old.items (S.tree store.old)) }
-    ensures ok { IfOk result (λ ids. Clears (λ c. ClearMap c deps.now [])
-        at.old.items (S.tree store.old) (S.tree store.new) ids.items trace.old trace.new) }
-    ensures path { OnOk result (at.new.items ≡ at.old.items) }
+    requires { (at : List AnyTagged) × S.names store.old place at
+        × AreChainedBelow (here at (S.tree store.old)) }
+    ensures ok { (at : List AnyTagged) → S.names store.old place at
+        → IfOk result (λ ids. Clears (λ c. ClearMap c deps.now [])
+        at (S.tree store.old) (S.tree store.new) ids.items trace.old trace.new) }
     ensures names_stay { NamesStay (S.names store.old) (S.names store.new) }
     ensures kept { TreeCanGoBack (S.tree store.old) (S.tree store.new) trace.old trace.new }
 {
     let depth = trace.depth();
-    let keys = clear_first(alloc, store, place, at.as_slice(), trace)?;
+    let keys = clear_first(alloc, store, place, trace)?;
     let mut ids = Vec::new(alloc);
     for (key, hint) in keys.as_slice() {
         trace.open(Rule::ClearMap2)?;
-        let more = elem_in(alloc, store, deps, place, at, key, *hint, trace)?;
+        let key = KeyAt {
+            place,
+            key,
+            hint: *hint,
+        };
+        let more = elem_in(alloc, store, deps, key, trace)?;
         ids = united(ids, more.as_slice())?;
     }
     trace.push(Rule::ClearMap3)?;
@@ -206,30 +199,24 @@ fn clear_list<S: TreeStore>(
     alloc: Global,
     store: &mut S,
     deps: &IdSet,
-    place: Place,
-    at: &mut Vec<Tagged>,
-    key: &Key,
-    hint: Hint,
+    key: KeyAt<'_>,
     trace: &mut Trace,
 ) -> Result<Vec<Id>, AllocError>
-    requires there { HasPlace at.old.items (S.tree store.old) }
-    requires named { S.names store.old place at.old.items }
-    requires chained { AreChainedBelow (here at.old.items (S.tree store.old)) }
-    ensures ok { IfOk result (λ ids. Clears (λ c. Clear c deps.now (ListT key.now))
-        at.old.items (S.tree store.old) (S.tree store.new) ids.items trace.old trace.new) }
-    ensures path { OnOk result (at.new.items ≡ at.old.items) }
+    requires { (at : List AnyTagged) × S.names store.old key.place at
+        × AreChainedBelow (here at (S.tree store.old)) }
+    ensures ok { (at : List AnyTagged) → S.names store.old key.entry.place at
+        → IfOk result (λ ids. Clears (λ c. Clear c deps.now (ListT key.entry.key.now))
+        at (S.tree store.old) (S.tree store.new) ids.items trace.old trace.new) }
     ensures names_stay { NamesStay (S.names store.old) (S.names store.new) }
     ensures kept { TreeCanGoBack (S.tree store.old) (S.tree store.new) trace.old trace.new }
 {
-    let Some(child) = store.list_by(place, key, hint) else {
+    let Some(child) = store.list_by(key.place, key.key, key.hint) else {
         trace.push(Rule::ClearNone)?;
         return Ok(Vec::new(alloc));
     };
     let depth = trace.depth();
-    at.push(Tagged::ListT(key.copy()?))?;
     trace.open(Rule::ClearList1)?;
-    let ids = list_in(alloc, store, deps, child, at, trace)?;
-    drop(at.pop());
+    let ids = list_in(alloc, store, deps, child, trace)?;
     trace.close(depth);
     Ok(ids)
 }
@@ -242,15 +229,13 @@ fn list_in<S: TreeStore>(
     store: &mut S,
     deps: &IdSet,
     place: Place,
-    at: &mut Vec<Tagged>,
     trace: &mut Trace,
 ) -> Result<Vec<Id>, AllocError>
-    requires there { HasPlace at.old.items (S.tree store.old) }
-    requires named { S.names store.old place at.old.items }
-    requires chained { IsChainedList (here at.old.items (S.tree store.old)) }
-    ensures ok { IfOk result (λ ids. Clears (λ c. ClearList c deps.now (Some Head))
-        at.old.items (S.tree store.old) (S.tree store.new) ids.items trace.old trace.new) }
-    ensures path { OnOk result (at.new.items ≡ at.old.items) }
+    requires { (at : List AnyTagged) × S.names store.old place at
+        × IsChainedList (here at (S.tree store.old)) }
+    ensures ok { (at : List AnyTagged) → S.names store.old place at
+        → IfOk result (λ ids. Clears (λ c. ClearList c deps.now (Some Head))
+        at (S.tree store.old) (S.tree store.new) ids.items trace.old trace.new) }
     ensures names_stay { NamesStay (S.names store.old) (S.names store.new) }
     ensures kept { TreeCanGoBack (S.tree store.old) (S.tree store.new) trace.old trace.new }
 {
@@ -264,7 +249,12 @@ fn list_in<S: TreeStore>(
             unreachable!();
         };
         trace.open(Rule::ClearList2)?;
-        let more = elem_in(alloc, store, deps, place, at, &element, hint, trace)?;
+        let at = KeyAt {
+            place,
+            key: &element,
+            hint,
+        };
+        let more = elem_in(alloc, store, deps, at, trace)?;
         hint = step.hint;
         ids = united(ids, more.as_slice())?;
         key = match next {
@@ -277,46 +267,28 @@ fn list_in<S: TreeStore>(
     Ok(ids)
 }
 
-/// A copy of the path.
-fn copied(alloc: Global, path: &[Tagged]) -> Result<Vec<Tagged>, AllocError>
-    ensures { IfOk result (λ v. v.items ≡ path.now) }
-{
-    let mut keys = Vec::new(alloc);
-    for key in path {
-        keys.push(key.copy()?)?;
-    }
-    Ok(keys)
-}
-
-/// Clears what is under a tagged key. Below a map or a list the path grows, so it is copied for these
-/// alone.
+/// Clears what is under a tagged key.
 fn tagged_in<S: TreeStore>(
     alloc: Global,
     store: &mut S,
     deps: &IdSet,
     place: Place,
-    at: &[Tagged],
     key: &Tagged,
     trace: &mut Trace,
 ) -> Result<Vec<Id>, AllocError>
-    requires there { HasPlace at.now (S.tree store.old) }
-    requires named { S.names store.old place at.now }
-    requires chained { AreChainedBelow (here at.now (S.tree store.old)) }
-    ensures ok { IfOk result (λ ids. Clears (λ c. Clear c deps.now key.now)
-        at.now (S.tree store.old) (S.tree store.new) ids.items trace.old trace.new) }
+    requires { (at : List AnyTagged) × S.names store.old place at
+        × AreChainedBelow (here at (S.tree store.old)) }
+    ensures ok { (at : List AnyTagged) → S.names store.old place at
+        → IfOk result (λ ids. Clears (λ c. Clear c deps.now key.now)
+        at (S.tree store.old) (S.tree store.new) ids.items trace.old trace.new) }
     ensures names_stay { NamesStay (S.names store.old) (S.names store.new) }
     ensures kept { TreeCanGoBack (S.tree store.old) (S.tree store.new) trace.old trace.new }
 {
+    let hint = ANYWHERE;
     match key {
-        Tagged::MapT(key) => {
-            let mut path = copied(alloc, at)?;
-            clear_map(alloc, store, deps, place, &mut path, key, ANYWHERE, trace)
-        }
-        Tagged::ListT(key) => {
-            let mut path = copied(alloc, at)?;
-            clear_list(alloc, store, deps, place, &mut path, key, ANYWHERE, trace)
-        }
-        Tagged::RegT(key) => clear_register(alloc, store, deps, place, at, key, ANYWHERE, trace),
+        Tagged::MapT(key) => clear_map(alloc, store, deps, KeyAt { place, key, hint }, trace),
+        Tagged::ListT(key) => clear_list(alloc, store, deps, KeyAt { place, key, hint }, trace),
+        Tagged::RegT(key) => clear_register(alloc, store, deps, KeyAt { place, key, hint }, trace),
     }
 }
 
@@ -352,24 +324,23 @@ pub fn clear<S: TreeStore>(
     ensures chained { IsChained (S.tree store.new).now }
 {
     let place = place_of(store, at);
-    clear_at(alloc, store, deps, place, at, key, trace)
+    clear_at(alloc, store, deps, place, key, trace)
 }
 
-/// As [`clear`], for a place whose name is known. For a register no path is copied.
+/// As [`clear`], in the context at a place that is known.
 pub fn clear_at<S: TreeStore>(
     alloc: Global,
     store: &mut S,
     deps: &IdSet,
     place: Place,
-    at: &[Tagged],
     key: &Tagged,
     trace: &mut Trace,
 ) -> Result<Vec<Id>, AllocError>
-    requires there { HasPlace at.now (S.tree store.old) }
-    requires named { S.names store.old place at.now }
+    requires named { (at : List AnyTagged) × S.names store.old place at }
     requires chained { IsChained (S.tree store.old).now }
-    ensures ok { IfOk result (λ ids. Clears (λ c. Clear c deps.now key.now)
-        at.now (S.tree store.old) (S.tree store.new) ids.items trace.old trace.new) }
+    ensures ok { (at : List AnyTagged) → S.names store.old place at
+        → IfOk result (λ ids. Clears (λ c. Clear c deps.now key.now)
+        at (S.tree store.old) (S.tree store.new) ids.items trace.old trace.new) }
     ensures names_stay { NamesStay (S.names store.old) (S.names store.new) }
     ensures err_store { OnErr result (S.tree store.new ≡ S.tree store.old) }
     ensures err_trace { OnErr result (trace.new ≡ trace.old) }
@@ -378,7 +349,7 @@ pub fn clear_at<S: TreeStore>(
 {
     let start = store.mark();
     let first = trace.mark();
-    match tagged_in(alloc, store, deps, place, at, key, trace) {
+    match tagged_in(alloc, store, deps, place, key, trace) {
         Ok(ids) => Ok(ids),
         Err(refused) => {
             store.undo_to(start);
@@ -420,34 +391,37 @@ pub fn clear_elem<S: TreeStore>(
     ensures chained { IsChained (S.tree store.new).now }
 {
     let place = place_of(store, at);
-    clear_elem_at(alloc, store, deps, place, at, key, trace)
+    clear_elem_at(alloc, store, deps, place, key, trace)
 }
 
-/// As [`clear_elem`], for a place whose name is known.
+/// As [`clear_elem`], in the context at a place that is known.
 pub fn clear_elem_at<S: TreeStore>(
     alloc: Global,
     store: &mut S,
     deps: &IdSet,
     place: Place,
-    at: &[Tagged],
     key: &Key,
     trace: &mut Trace,
 ) -> Result<Vec<Id>, AllocError>
-    requires there { HasPlace at.now (S.tree store.old) }
-    requires named { S.names store.old place at.now }
+    requires named { (at : List AnyTagged) × S.names store.old place at }
     requires chained { IsChained (S.tree store.old).now }
-    ensures ok { IfOk result (λ ids. Clears (λ c. ClearElem c deps.now key.now)
-        at.now (S.tree store.old) (S.tree store.new) ids.items trace.old trace.new) }
+    ensures ok { (at : List AnyTagged) → S.names store.old place at
+        → IfOk result (λ ids. Clears (λ c. ClearElem c deps.now key.now)
+        at (S.tree store.old) (S.tree store.new) ids.items trace.old trace.new) }
     ensures names_stay { NamesStay (S.names store.old) (S.names store.new) }
     ensures err_store { OnErr result (S.tree store.new ≡ S.tree store.old) }
     ensures err_trace { OnErr result (trace.new ≡ trace.old) }
     ensures kept { TreeCanGoBack (S.tree store.old) (S.tree store.new) trace.old trace.new }
     ensures chained { IsChained (S.tree store.new).now }
 {
-    let mut path = copied(alloc, at)?;
+    let at = KeyAt {
+        place,
+        key,
+        hint: ANYWHERE,
+    };
     let start = store.mark();
     let first = trace.mark();
-    match elem_in(alloc, store, deps, place, &mut path, key, ANYWHERE, trace) {
+    match elem_in(alloc, store, deps, at, trace) {
         Ok(ids) => Ok(ids),
         Err(refused) => {
             store.undo_to(start);

@@ -1,6 +1,7 @@
 //! Clearing a register, and reading a presence set: steps of clearing.
 
-ghost use Rattle.std.specs.Prelude.{◌≡◌, ◌↔◌, Some, IsTrue, IfOk, OnOk, OnErr, option_copied};
+ghost use Rattle.std.specs.Prelude.{◌≡◌, ◌↔◌, List, Some, IsTrue, IfOk, OnOk, OnErr, option_copied};
+ghost use Rattle.jc_rules.specs.declared.key.Tagged.{Tagged as AnyTagged};
 ghost use Rattle.jc_rules.specs.declared.key.Tagged.TheVariants.{RegT};
 ghost use Rattle.jc_rules.specs.Ids.{AreRising};
 ghost use Rattle.jc_rules.specs.Context.{with_presence};
@@ -11,37 +12,33 @@ ghost use Rattle.jc_rules.specs.Derives.{Derives};
 ghost use Rattle.jc_rules.specs.Trace.{IsLonger};
 ghost use Rattle.jc_rules.specs.Table.{kept};
 ghost use Rattle.jc_tree.specs.CanGoBack.{TreeCanGoBack};
-ghost use Rattle.jc_tree.specs.Tree.{HasPlace, NamesStay, here};
+ghost use Rattle.jc_tree.specs.Tree.{NamesStay, here};
 ghost use Rattle.jc_clear.specs.Clears.{Clears};
 
 use crate::sets::ids_of;
-use jc_rules::{Id, IdSet, Key, Rule, Tagged, Trace, Value};
-use jc_tree::{Hint, Place, TreeStore};
+use jc_rules::{Id, IdSet, Rule, Trace, Value};
+use jc_tree::{KeyAt, TreeStore};
 use std::alloc::{AllocError, Global};
 
-/// Returns the presence set of the key in the context at the place, rising; the empty set where there
-/// is none.
+/// Returns the presence set of the key, rising; the empty set where there is none.
 ///
 /// The rule is added to the trace at its depth. Only memory can be refused; the trace is then as it
 /// was.
 pub(crate) fn presence_of<S: TreeStore>(
     alloc: Global,
     store: &S,
-    place: Place,
-    at: &[Tagged],
-    key: &Key,
-    hint: Hint,
+    key: KeyAt<'_>,
     trace: &mut Trace,
 ) -> Result<Vec<Id>, AllocError>
-    requires there { HasPlace at.now (S.tree store.now) }
-    requires named { S.names store.now place at.now }
-    ensures ok { IfOk result (λ ids. Derives (Presence (here at.now (S.tree store.now)) key.now)
+    requires { (at : List AnyTagged) × S.names store.now key.place at }
+    ensures ok { (at : List AnyTagged) → S.names store.now key.entry.place at
+        → IfOk result (λ ids. Derives (Presence (here at (S.tree store.now)) key.entry.key.now)
         (ToIds ids.items) trace.old trace.new) }
     ensures rises { IfOk result (λ ids. AreRising ids.items) }
     ensures err { OnErr result (trace.new ≡ trace.old) }
     ensures kept { IsLonger trace.old trace.new }
 {
-    match store.presence_by(place, key, hint) {
+    match store.presence_by(key.place, key.key, key.hint) {
         Some(ids) => {
             let ids = ids.to_vec(alloc)?;
             trace.push(Rule::Presence1)?;
@@ -64,27 +61,24 @@ fn is_set(set: Option<&[Id]>, ids: &[Id]) -> bool
     }
 }
 
-/// Sets the presence set of the key in the context at the place, unless it is that already.
+/// Sets the presence set of the key, unless it is that already.
 pub(crate) fn put_presence<S: TreeStore>(
     store: &mut S,
-    place: Place,
-    at: &[Tagged],
-    key: &Key,
-    hint: Hint,
+    key: KeyAt<'_>,
     ids: &[Id],
 ) -> Result<(), AllocError>
-    requires there { HasPlace at.now (S.tree store.old) }
-    requires named { S.names store.old place at.now }
+    requires named { (at : List AnyTagged) × S.names store.old key.place at }
     requires rising { AreRising ids.now }
-    ensures ok { OnOk result ((S.tree store.new).now
-        ≡ with_node_at at.now (with_presence key.now ids.now (here at.now (S.tree store.old))) (S.tree store.old).now) }
+    ensures ok { (at : List AnyTagged) → S.names store.old key.entry.place at → OnOk result ((S.tree store.new).now
+        ≡ with_node_at at (with_presence key.entry.key.now ids.now (here at (S.tree store.old)))
+        (S.tree store.old).now) }
     ensures names_stay { NamesStay (S.names store.old) (S.names store.new) }
     ensures kept { IsLater (S.tree store.old) (S.tree store.new) }
 {
-    if is_set(store.presence_by(place, key, hint), ids) {
+    if is_set(store.presence_by(key.place, key.key, key.hint), ids) {
         return Ok(());
     }
-    store.set_presence_at(place, key, ids)
+    store.set_presence_at(key.place, key.key, ids)
 }
 
 /// The pairs whose identifier isn't in the set.
@@ -112,20 +106,17 @@ pub fn clear_register<S: TreeStore>(
     alloc: Global,
     store: &mut S,
     deps: &IdSet,
-    place: Place,
-    at: &[Tagged],
-    key: &Key,
-    hint: Hint,
+    key: KeyAt<'_>,
     trace: &mut Trace,
 ) -> Result<Vec<Id>, AllocError>
-    requires there { HasPlace at.now (S.tree store.old) }
-    requires named { S.names store.old place at.now }
-    ensures ok { IfOk result (λ ids. Clears (λ c. Clear c deps.now (RegT key.now))
-        at.now (S.tree store.old) (S.tree store.new) ids.items trace.old trace.new) }
+    requires { (at : List AnyTagged) × S.names store.old key.place at }
+    ensures ok { (at : List AnyTagged) → S.names store.old key.entry.place at
+        → IfOk result (λ ids. Clears (λ c. Clear c deps.now (RegT key.entry.key.now))
+        at (S.tree store.old) (S.tree store.new) ids.items trace.old trace.new) }
     ensures names_stay { NamesStay (S.names store.old) (S.names store.new) }
     ensures kept { TreeCanGoBack (S.tree store.old) (S.tree store.new) trace.old trace.new }
 {
-    match store.register_by(place, key, hint) {
+    match store.register_by(key.place, key.key, key.hint) {
         None => {
             trace.push(Rule::ClearNone)?;
             Ok(Vec::new(alloc))
@@ -137,7 +128,7 @@ pub fn clear_register<S: TreeStore>(
             if is_same(pairs, left.as_slice()) {
                 return Ok(ids);
             }
-            store.set_register_at(place, key, left)?;
+            store.set_register_at(key.place, key.key, left)?;
             Ok(ids)
         }
     }

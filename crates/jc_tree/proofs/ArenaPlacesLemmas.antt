@@ -1,8 +1,9 @@
 -- About Arena: changes keep the numbers to which paths lead.
-use Rattle.std.proofs.Common.{◌≡◌, ℕ, zero, suc, ◌<◌, ◌≤◌, List, [], ◌∷◌, ◌++◌, length, Option, Some, None, Bool, true, false, is_some, ◌⊎◌, refl, sym, ◌∙◌, ap, arith, cond}
+use Rattle.std.proofs.Common.{◌≡◌, ◌≢◌, ℕ, zero, suc, ◌<◌, ◌≤◌, List, [], ◌∷◌, ◌++◌, length, Option, Some, None, Bool, true, false, is_some, ◌⊎◌, refl, sym, ◌∙◌, ap, arith, cond}
 use Rattle.std.specs.Ordering.{eq_by_cmp}
 use Rattle.std.proofs.lemmas.Option.{same_Some}
 use Rattle.std.proofs.lemmas.Bool.{cases_order}
+use Rattle.std.proofs.lemmas.Bool.Decides.{Decides-eqb}
 use mathlib.Core.Logic.{inl, inr}
 use Rattle.jc_rules.specs.declared.key.Key.{Key}
 use Rattle.jc_rules.specs.declared.key.Tagged.{Tagged}
@@ -11,11 +12,13 @@ use Rattle.jc_rules.specs.Order.{key_cmp}
 use Rattle.jc_rules.specs.Entries.{find}
 use Rattle.jc_rules.specs.Context.{Context, content}
 use Rattle.jc_rules.specs.Paths.{HasContext}
-use Rattle.jc_rules.specs.ContextsAt.{node_in, context_at}
+use Rattle.jc_rules.specs.ContextsAt.{node_in, node_at, context_at}
 use Rattle.jc_rules.proofs.OrderLemmas.{keys_total, exact_keys}
 use Rattle.jc_rules.proofs.EntriesLemmas.{same-self, same-eq, find-put}
 use Rattle.jc_tree.specs.declared.node.Change.{Change}
-use Rattle.jc_tree.specs.Arena.{Flat, flat_at, with_children, content_of_arena, child_number, go_on, walk, with_child_number, IsSoundArena, IsNodeAt}
+use Rattle.jc_tree.specs.Arena.{Flat, flat_at, with_children, content_of_arena, child_number, go_on, walk, with_child_number, is_number, path_to, IsSoundArena, IsNodeAt}
+use Rattle.jc_tree.specs.ContextPaths.{paths}
+use Rattle.jc_tree.proofs.ContextPathsLemmas.{listed_path, first_passes}
 use Rattle.jc_tree.specs.ArenaUndo.{IsGood}
 use Rattle.jc_tree.proofs.PlacesLemmas.{some_content, no_node, some_place}
 use Rattle.jc_tree.proofs.ArenaNumbersLemmas.{content_is, no_walk, past_blank, found}
@@ -184,9 +187,22 @@ one_way (suc n) ns (t ∷ ts) (u ∷ us) j s w h g =
     length_last [] x = refl
     length_last (y ∷ xs) x = ap suc (length_last xs x)
 
+number_is : (i : ℕ) (o : Option ℕ) → is_number i o ≡ true → o ≡ Some i
+number_is i None h = cc
+number_is i (Some j) h = ap (λ n. Some n) ((Decides-eqb j i).0 h)
+
+-- it is found by its number
+path_found : (ns : List Flat) (at : List Tagged) (i : ℕ) → IsSoundArena ns → node_at at (content_of_arena ns) ≢ None → walk ns 0 at ≡ Some i → path_to ns i ≡ at
+path_found ns at i s p h =
+    let is : is_number i (walk ns 0 at) ≡ true = ap (λ o. is_number i o) h ∙ (Decides-eqb i i).1 refl in
+    let found = first_passes (λ q. is_number i (walk ns 0 q)) (paths (content_of_arena ns)) at (listed_path at (content_of_arena ns) p) is in
+    sym (one_way (length at) ns at (path_to ns i) i s (omega arith) h (number_is i (walk ns 0 (path_to ns i)) found))
+
 -- a path that leads to a number leads to a context
 pub at_number : (ns : List Flat) (at : List Tagged) (i : ℕ) → IsGood ns → walk ns 0 at ≡ Some i → IsNodeAt ns i at
-at_number ns at i g h = record { walk = h; only = λ q f. one_way (length at) ns at q i g.sound (omega arith) h f; there = some_place at (content_of_arena ns) _ (found ns at i g.sound g.some h) }
+at_number ns at i g h =
+    let p = some_place at (content_of_arena ns) _ (found ns at i g.sound g.some h) in
+    record { walk = h; path = path_found ns at i g.sound p h; there = p }
 
 pub nodes_stay : (ns ms : List Flat) → IsGood ms → ((at : List Tagged) → walk ms 0 at ≡ walk ns 0 at) → (q : List Tagged) (i : ℕ) → IsNodeAt ns i q → IsNodeAt ms i q
 nodes_stay ns ms g same q i h = at_number ms q i g (same q ∙ h.walk)

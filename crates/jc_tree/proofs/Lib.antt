@@ -22,6 +22,7 @@ pub mod ArenaChangesLemmas
 pub mod ArenaStepsLemmas
 pub mod ArenaHistoryLemmas
 pub mod ArenaCallsLemmas
+pub mod ContextPathsLemmas
 pub mod ArenaPlacesLemmas
 pub mod ArenaUndoNumbersLemmas
 pub mod CountedLemmas

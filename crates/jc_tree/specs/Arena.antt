@@ -1,5 +1,5 @@
 -- Contexts as numbered nodes in one list, and which such lists are sound: the fast store's words for its content.
-use Rattle.std.specs.Prelude.{◌≡◌, ◌≢◌, ℕ, zero, suc, ◌<◌, List, [], ◌∷◌, ◌++◌, length, Bool, Option, Some, None, is_some, get_or}
+use Rattle.std.specs.Prelude.{◌≡◌, ◌≢◌, ℕ, zero, suc, ◌<◌, List, [], ◌∷◌, ◌++◌, length, Bool, false, Option, Some, None, is_some, get_or, ◌==◌}
 use Rattle.jc_rules.specs.declared.id.Id.{Id}
 use Rattle.jc_rules.specs.declared.key.Key.{Key}
 use Rattle.jc_rules.specs.declared.key.Key.TheVariants.{Head}
@@ -12,6 +12,7 @@ use Rattle.jc_rules.specs.Entries.{find, put, keys_of}
 use Rattle.jc_rules.specs.Ids.{with_id}
 use Rattle.jc_rules.specs.Context.{Context, context, children, Register, empty}
 use Rattle.jc_rules.specs.ContextsAt.{node_at}
+use Rattle.jc_tree.specs.ContextPaths.{paths, first_path}
 use Rattle.jc_tree.specs.Tree.{or_no_entries}
 use Rattle.jc_tree.specs.Sorted.{AreSorted}
 use Rattle.jc_tree.specs.Undo.{removed, restored, out_of_set, restored_value, former_of_id, former_of_value}
@@ -88,9 +89,18 @@ abbrev pub walk : List Flat → ℕ → List Tagged → Option ℕ
 walk ns i [] = Some i
 walk ns i (t ∷ ts) = go_on (child_number t (flat_at ns i)) (λ j. walk ns j ts)
 
--- the path leads to the node with the number, and no other path does
+-- whether it is this number
+abbrev pub is_number : ℕ → Option ℕ → Bool
+is_number i None = false
+is_number i (Some j) = j == i
+
+-- the path that leads to the node with the number
+abbrev pub path_to : List Flat → ℕ → List Tagged
+path_to ns i = first_path (λ q. is_number i (walk ns 0 q)) (paths (content_of_arena ns))
+
+-- the path leads to the node with the number, and is the one that is found for it
 pub record IsNodeAt (ns : List Flat) (i : ℕ) (at : List Tagged) : Type 0 where
-  pub only : (q : List Tagged) → walk ns 0 q ≡ Some i → at ≡ q
+  pub path : path_to ns i ≡ at
   pub walk : walk ns 0 at ≡ Some i
   pub there : node_at at (content_of_arena ns) ≢ None
 

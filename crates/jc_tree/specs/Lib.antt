@@ -10,6 +10,7 @@ pub mod Named
 pub mod Laws
 pub mod ChainedBelow
 pub mod CanGoBack
+pub mod ContextPaths
 pub mod Arena
 pub mod SmallFormers
 pub mod ArenaUndo

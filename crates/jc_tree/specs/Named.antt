@@ -1,8 +1,6 @@
 -- The plain store's places: which path each names.
 use Rattle.std.specs.Prelude.{◌≡◌, ◌≢◌, ℕ, zero, suc, List, [], ◌∷◌, Bool, true, false, Option, Some, None}
 use Rattle.std.specs.List.{AllByRecursion, AllByRecursion-prop}
-use Rattle.std.proofs.Common.{sym, ◌∙◌}
-use Rattle.std.proofs.lemmas.Option.{same_Some}
 use Rattle.std.specs.declared.alloc.Global.{Global}
 use Rattle.std.specs.declared.vec.Vec.{Vec}
 use Rattle.jc_rules.specs.declared.key.Key.{Key}
@@ -25,6 +23,10 @@ path_in (p ∷ ps) (suc n) = path_in ps n
 abbrev pub path_at : List (Vec Tagged Global) → ℕ → Option (List Tagged)
 path_at ps zero = Some []
 path_at ps (suc n) = path_in ps n
+
+abbrev pub or_root : Option (List Tagged) → List Tagged
+or_root None = []
+or_root (Some at) = at
 
 -- the number names the path, which leads to a context
 pub record IsPlaceOf (ps : List (Vec Tagged Global)) (c : Context) (n : ℕ) (at : List Tagged) : Type 0 where
@@ -51,7 +53,3 @@ AreNamed-single ps c = λ x y i. λ at h f. no_two (x at h f) (y at h f) i
 
 pub AreAllNamed-single : (ps : List (Vec Tagged Global)) (cs : List Context) → IsProp (AreAllNamed ps cs)
 AreAllNamed-single ps cs = AllByRecursion-prop (AreNamed ps) (AreNamed-single ps) cs
-
--- a number names one path
-pub same_path : (ps : List (Vec Tagged Global)) (n : ℕ) (at q : List Tagged) → path_at ps n ≡ Some at → path_at ps n ≡ Some q → at ≡ q
-same_path ps n at q e f = same_Some at q (sym e ∙ f)

@@ -9,7 +9,7 @@ ghost use Rattle.jc_rules.specs.ContextsAt.{context_at};
 ghost use Rattle.jc_tree.specs.declared.store.Place.{Place as AnyPlace};
 ghost use Rattle.jc_tree.specs.Tree.{IsChanged};
 ghost use Rattle.jc_tree.specs.Change.{IsFit, changed_by};
-ghost use Rattle.jc_tree.specs.Arena.{IsInside, content_of_arena, flat_at, former_of_flat, walk, IsNodeAt};
+ghost use Rattle.jc_tree.specs.Arena.{IsInside, content_of_arena, flat_at, former_of_flat, walk, path_to, IsNodeAt};
 ghost use Rattle.jc_tree.specs.Undo.{was_there};
 ghost use Rattle.jc_tree.specs.ArenaUndo.{arena_contents, fewer, arena_undone_once, tree_of_arena, AreOldNumbers, IsGood, AreGood, IsGood-single, AreGood-single};
 
@@ -193,9 +193,11 @@ impl TreeStore for ArenaTree {
 
     ghost names = { λ s place at. IsNodeAt s.nodes.items place.number at };
 
+    ghost path = { λ s place. path_to s.nodes.items place.number };
+
     ghost kept = { λ s. s.good.kept };
 
-    ghost one = { λ s p at other named too. named.only other too.walk };
+    ghost one = { λ s p at named. named.path };
 
     ghost there = { λ s p at named. named.there };
 

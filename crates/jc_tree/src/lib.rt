@@ -21,5 +21,5 @@ mod tables;
 pub use arena::ArenaTree;
 pub use plain::PlainTree;
 pub use store::{
-    ANYWHERE, Hint, KeysOf, Mark, Place, Step, Stretch, TreeStore, is_place, place_of,
+    ANYWHERE, Hint, KeyAt, KeysOf, Mark, Place, Step, Stretch, TreeStore, is_place, place_of,
 };

@@ -12,8 +12,9 @@ ghost use Rattle.jc_tree.specs.Change.{IsFit, IsNew, changed_at};
 ghost use Rattle.jc_tree.specs.Arena.{IsInside};
 ghost use Rattle.jc_tree.specs.Undo.{earlier_contents};
 ghost use Rattle.jc_tree.specs.Single.{IsKept-single, AreAllKept-single};
-ghost use Rattle.jc_tree.specs.Named.{path_at, IsPlaceOf, IsNamed, AreNamed, AreAllNamed, AreNamed-single, AreAllNamed-single, child_key, same_path};
+ghost use Rattle.jc_tree.specs.Named.{path_at, IsPlaceOf, IsNamed, AreNamed, AreAllNamed, AreNamed-single, AreAllNamed-single, child_key, or_root};
 ghost use Rattle.jc_rules.specs.declared.key.Tagged.{Tagged as AnyTagged};
+ghost use Rattle.std.proofs.Common.{ap};
 
 use crate::ids::Ids;
 use crate::lists::{Pairs, copy_place};
@@ -187,9 +188,11 @@ impl TreeStore for PlainTree {
 
     ghost names = { λ s place at. IsPlaceOf s.paths.items s.root place.number at };
 
+    ghost path = { λ s place. or_root (path_at s.paths.items place.number) };
+
     ghost kept = { λ s. s.root_kept };
 
-    ghost one = { λ s p at other named too. same_path s.paths.items p.number at other named.named too.named };
+    ghost one = { λ s p at named. ap or_root named.named };
 
     ghost there = { λ s p at named. named.there };
 

@@ -42,6 +42,14 @@ pub struct Hint {
 /// The hint for a key of which none is known.
 pub const ANYWHERE: Hint = Hint { number: 0 };
 
+/// A key in the context at a place, and where a store may look first for it.
+#[derive(Clone, Copy)]
+pub struct KeyAt<'a> {
+    pub place: Place,
+    pub key: &'a Key,
+    pub hint: Hint,
+}
+
 /// What a walk along a list reads of a key.
 #[derive(Clone, Copy, Debug, PartialEq, Eq)]
 pub struct Step {
@@ -90,6 +98,9 @@ pub trait TreeStore {
 
     /// That the place is the store's name for the path, which leads to a context.
     ghost names: { Self → AnyPlace → List AnyTagged → Type 0 };
+
+    /// The path that the place names, if it names one.
+    ghost path: { Self → AnyPlace → List AnyTagged };
 
     /// The place of the root.
     fn root(&self) -> Place
@@ -268,7 +279,7 @@ pub trait TreeStore {
     ghost kept: { (s : Self) → IsWellFormedContext (tree s).now };
 
     /// A place names one path.
-    ghost one: { (s : Self) (p : AnyPlace) (at other : List AnyTagged) → names s p at → names s p other → at ≡ other };
+    ghost one: { (s : Self) (p : AnyPlace) (at : List AnyTagged) → names s p at → path s p ≡ at };
 
     /// What a place names is there.
     ghost there: { (s : Self) (p : AnyPlace) (at : List AnyTagged) → names s p at → HasPlace at (tree s) };
