@@ -15,18 +15,21 @@ use Rattle.jc_rules.specs.declared.key.Key.TheVariants as K
 use Rattle.jc_rules.specs.Order.{key_cmp}
 use Rattle.jc_rules.specs.Entries.{IsRising, keys_of, find}
 use Rattle.jc_rules.specs.declared.key.Tagged.{Tagged}
-use Rattle.jc_rules.specs.declared.key.Tagged.TheVariants.{MapT, ListT, RegT}
-use Rattle.jc_rules.specs.Paths.{HasContext}
-use Rattle.jc_rules.specs.ContextsAt.{node_in, or_empty}
-use Rattle.jc_rules.specs.Context.{Context, context, presences, links, content, Register}
-use Rattle.jc_tree.specs.Tree.{is_after}
+use Rattle.jc_rules.specs.declared.key.Tagged.TheVariants.{MapT, ListT}
+use Rattle.jc_rules.specs.ContextsAt.{or_empty}
+use Rattle.jc_rules.specs.Context.{Context, context, presences, links, registers, content, Register}
+use Rattle.jc_tree.specs.Tree.{Tree, HasPlace, here, is_after}
 use Rattle.jc_tree.specs.Walks.{keys_above, entry_of}
 use Rattle.jc_tree.proofs.WalksLemmas.{above-none, none_above, step}
+use Rattle.jc_meaning.proofs.ComparedContextsLemmas.{StandsBelow, stands_below}
+use Rattle.jc_view.specs.declared.document.Branch.{Branch}
+use Rattle.jc_view.specs.declared.document.Branch.TheVariants as B
+use Rattle.jc_view.specs.declared.document.Form.{Form}
 use Rattle.jc_view.specs.declared.document.Form.TheVariants as F
-use Rattle.jc_view.specs.Visible.{GoesThrough, present, marked, members_at, elements_after, with_part, with_values, parts_json, one_of, map_json, list_json, document, line_json}
+use Rattle.jc_view.specs.Visible.{GoesThrough, present, marked, members_at, elements_after, or_no_value, with_part, with_values, parts_json, one_of, map_json, list_json, document, line_json}
 use Rattle.jc_json.specs.Gains.{Gains}
-use Rattle.jc_view.specs.Parts.{parts_shown_at, child_json, is_list, form_of, members_front, member_shown, items_front, part_tokens, values_tokens, first_tokens, if_so}
-use Rattle.jc_view.proofs.PresentLemmas.{present_by}
+use Rattle.jc_view.specs.Parts.{parts_shown_at, node_json, child_json, shows_at, tag_of, form_of, members_front, member_shown, items_front, part_tokens, values_tokens, first_tokens, if_so}
+use Rattle.jc_view.proofs.PresentLemmas.{present_by, place_is}
 use Rattle.jc_view.proofs.ElementsLemmas.{items_tokens_are}
 use Rattle.jc_json.proofs.GainsLemmas.{Wrote, wrote_begins}
 
@@ -115,55 +118,40 @@ every_is names r map list m l =
     ∙ sym (append_assoc (p1 ++ p2) v (T.end_object ∷ [])) in
     ap (λ x. T.begin_object ∷ T.key (codes "!conflict") ∷ T.begin_object ∷ (x ++ T.end_object ∷ [])) parts
 
-pub value_place : (names : List (List ℕ)) (r : Register) (map list : Bool) (m l : Json) → form_of r map list ≡ F.Value → json_tokens (one_of names r (if_so map m) (if_so list l)) ≡ first_tokens r
-value_place names (e ∷ []) false false m l h = refl
-value_place names (e ∷ []) true false m l h = cc
-value_place names (e ∷ []) false true m l h = cc
-value_place names (e ∷ []) true true m l h = cc
-value_place names [] false false m l h = cc
-value_place names [] true false m l h = cc
-value_place names [] false true m l h = cc
-value_place names [] true true m l h = cc
-value_place names (e ∷ d ∷ r) map list m l h = cc
+-- the tokens of a place that is shown in this form, with what its map and its list show
+abbrev pub form_tokens : List (List ℕ) → Register → Bool → Bool → (Branch → Json) → Form → List Token
+form_tokens names r map list child F.Value = first_tokens r
+form_tokens names r map list child (F.Child b) = json_tokens (child b)
+form_tokens names r map list child F.Every =
+    json_tokens (object (member (codes "!conflict") (parts_json names r (if_so map (child B.Map)) (if_so list (child B.List))) no_members))
 
-pub map_place : (names : List (List ℕ)) (r : Register) (map list : Bool) (m l : Json) → form_of r map list ≡ F.Map → json_tokens (one_of names r (if_so map m) (if_so list l)) ≡ json_tokens m
-map_place names [] true false m l h = refl
-map_place names [] false false m l h = cc
-map_place names [] false true m l h = cc
-map_place names [] true true m l h = cc
-map_place names (e ∷ []) false false m l h = cc
-map_place names (e ∷ []) true false m l h = cc
-map_place names (e ∷ []) false true m l h = cc
-map_place names (e ∷ []) true true m l h = cc
-map_place names (e ∷ d ∷ r) map list m l h = cc
+by_form : (names : List (List ℕ)) (r : Register) (map list : Bool) (child : Branch → Json)
+    → json_tokens (one_of names r (if_so map (child B.Map)) (if_so list (child B.List))) ≡ form_tokens names r map list child (form_of r map list)
+by_form names [] false false child = refl
+by_form names [] true false child = refl
+by_form names [] false true child = refl
+by_form names [] true true child = refl
+by_form names (e ∷ []) false false child = refl
+by_form names (e ∷ []) true false child = refl
+by_form names (e ∷ []) false true child = refl
+by_form names (e ∷ []) true true child = refl
+by_form names (e ∷ d ∷ r) false false child = refl
+by_form names (e ∷ d ∷ r) true false child = refl
+by_form names (e ∷ d ∷ r) false true child = refl
+by_form names (e ∷ d ∷ r) true true child = refl
 
-pub list_place : (names : List (List ℕ)) (r : Register) (map list : Bool) (m l : Json) → form_of r map list ≡ F.List → json_tokens (one_of names r (if_so map m) (if_so list l)) ≡ json_tokens l
-list_place names [] false true m l h = refl
-list_place names [] false false m l h = cc
-list_place names [] true false m l h = cc
-list_place names [] true true m l h = cc
-list_place names (e ∷ []) false false m l h = cc
-list_place names (e ∷ []) true false m l h = cc
-list_place names (e ∷ []) false true m l h = cc
-list_place names (e ∷ []) true true m l h = cc
-list_place names (e ∷ d ∷ r) map list m l h = cc
-
-pub every_place : (names : List (List ℕ)) (r : Register) (map list : Bool) (m l : Json) → form_of r map list ≡ F.Every
-    → json_tokens (one_of names r (if_so map m) (if_so list l)) ≡ json_tokens (object (member (codes "!conflict") (parts_json names r (if_so map m) (if_so list l)) no_members))
-every_place names [] true true m l h = refl
-every_place names [] false false m l h = refl
-every_place names [] true false m l h = cc
-every_place names [] false true m l h = cc
-every_place names (e ∷ []) false false m l h = cc
-every_place names (e ∷ []) true false m l h = refl
-every_place names (e ∷ []) false true m l h = refl
-every_place names (e ∷ []) true true m l h = refl
-every_place names (e ∷ d ∷ r) false false m l h = refl
-every_place names (e ∷ d ∷ r) true false m l h = refl
-every_place names (e ∷ d ∷ r) false true m l h = refl
-every_place names (e ∷ d ∷ r) true true m l h = refl
+-- what is shown at a key, by the form that was chosen for its values and for whether its map and its list are shown
+pub place_by : (names : List (List ℕ)) (goes : GoesThrough) (at : List Tagged) (k : Key) (c : Context) (r : Register) (map list : Bool) (form : Form)
+    → r ≡ or_no_value (find key_cmp k (registers c)) → map ≡ shows_at goes at (MapT k) c → list ≡ shows_at goes at (ListT k) c → form ≡ form_of r map list
+    → json_tokens (parts_shown_at names goes at c k) ≡ form_tokens names r map list (λ b. child_json names goes at (tag_of b k) c) form
+place_by names goes at k c r map list form er em el ef =
+    rw (ef, er, em, el) (ap json_tokens (place_is names goes at k c) ∙ by_form names (or_no_value (find key_cmp k (registers c))) (shows_at goes at (MapT k) c) (shows_at goes at (ListT k) c) (λ b. child_json names goes at (tag_of b k) c))
 
 -- ---- whole maps and lists
+
+pub child_stands : (b : Branch) (at : List Tagged) (k : Key) (a : Tree) → HasPlace at a → is_some (content (tag_of b k) (here at a)) ≡ true → StandsBelow at (tag_of b k) a
+child_stands B.Map at k a h e = stands_below at (MapT k) a h tt e
+child_stands B.List at k a h e = stands_below at (ListT k) a h tt e
 
 module _ (names : List (List ℕ)) (goes : GoesThrough) (at : List Tagged) where
   pub map_is : (c : Context) → json_tokens (map_json names goes at c) ≡ (T.begin_object ∷ []) ++ members_front (parts_shown_at names goes at c) (present (presences c)) ++ (T.end_object ∷ [])
@@ -173,15 +161,10 @@ module _ (names : List (List ℕ)) (goes : GoesThrough) (at : List Tagged) where
       ≡ (T.begin_array ∷ []) ++ items_front (parts_shown_at names goes at c) (present (presences c)) (elements_after (length (links c)) K.Head (links c)) ++ (T.end_array ∷ [])
   list_is (context m l r p n) = ap (λ x. T.begin_array ∷ x) (items_tokens_are (parts_shown_at names goes at (context m l r p n)) (present p) (elements_after (length n) K.Head n))
 
-  pub list_child : (t : Tagged) (c d : Context) → is_list t ≡ true → node_in (content t c) ≡ Some d → list_json names goes (at ++ t ∷ []) d ≡ child_json names goes at t c
-  list_child (ListT k) c d h e = sym (ap (λ o. list_json names goes (at ++ ListT k ∷ []) (or_empty o)) e)
-  list_child (MapT k) c d h e = cc
-  list_child (RegT k) c d h e = cc
-
-  pub map_child : (t : Tagged) (c d : Context) → HasContext t → is_list t ≡ false → node_in (content t c) ≡ Some d → map_json names goes (at ++ t ∷ []) d ≡ child_json names goes at t c
-  map_child (MapT k) c d x h e = sym (ap (λ o. map_json names goes (at ++ MapT k ∷ []) (or_empty o)) e)
-  map_child (ListT k) c d x h e = cc
-  map_child (RegT k) c d x h e = absurd x
+  -- what stands under a key, at the path that is longer by it
+  pub child_is : (b : Branch) (k : Key) (p : List Tagged) (a : Tree) → StandsBelow at (tag_of b k) a → p ≡ at ++ tag_of b k ∷ [] → node_json names goes p (tag_of b k) (here p a) ≡ child_json names goes at (tag_of b k) (here at a)
+  child_is b k p a x e =
+      ap (λ (s : List Tagged). node_json names goes s (tag_of b k) (here s a)) e ∙ ap (node_json names goes (at ++ tag_of b k ∷ []) (tag_of b k)) (x.is ∙ sym (ap or_empty x.found))
 
 -- ---- the line
 
