@@ -1,5 +1,5 @@
 -- About Visible and Parts: the members of a map, written one after another; what is shown at a key; the line.
-use Rattle.std.proofs.Common.{◌≡◌, ◌≢◌, ℕ, List, [], ◌∷◌, ◌++◌, Bool, true, false, cond, Option, Some, None, is_some, length, append_assoc, refl, sym, ◌∙◌, ap, subst, codes}
+use Rattle.std.proofs.Common.{◌≡◌, ◌≢◌, ℕ, zero, suc, ◌<◌, ◌≤◌, List, [], ◌∷◌, ◌++◌, Bool, true, false, cond, Option, Some, None, is_some, length, take, get_or, Bor, Contains, append_assoc, refl, sym, ◌∙◌, ap, subst, codes, arith}
 use Rattle.std.specs.List.{AllByRecursion}
 use Rattle.json.specs.Json.{Json, Members, no_members, member, object}
 use Rattle.json.specs.Print.{print}
@@ -7,8 +7,7 @@ use Rattle.json.specs.Token.{Token}
 use Rattle.json.specs.Token as T
 use Rattle.json.specs.Tree.{json_tokens, members_tokens}
 use Rattle.json.specs.Written.{Written}
-use Rattle.std.specs.declared.cmp.Ordering.TheVariants.{Greater}
-use Rattle.std.proofs.lemmas.List.{append-nil}
+use Rattle.std.proofs.lemmas.List.{append-nil, take_all, length-map}
 use Rattle.jc_rules.specs.declared.id.Id.{Id}
 use Rattle.jc_rules.specs.declared.key.Key.{Key}
 use Rattle.jc_rules.specs.declared.key.Key.TheVariants as K
@@ -17,10 +16,13 @@ use Rattle.jc_rules.specs.Entries.{IsRising, keys_of, find}
 use Rattle.jc_rules.specs.declared.key.Tagged.{Tagged}
 use Rattle.jc_rules.specs.declared.key.Tagged.TheVariants.{MapT, ListT}
 use Rattle.jc_rules.specs.ContextsAt.{or_empty}
-use Rattle.jc_rules.specs.Context.{Context, context, presences, links, registers, content, Register}
-use Rattle.jc_tree.specs.Tree.{Tree, HasPlace, here, is_after}
-use Rattle.jc_tree.specs.Walks.{keys_above, entry_of}
-use Rattle.jc_tree.proofs.WalksLemmas.{above-none, none_above, step}
+use Rattle.jc_rules.specs.Context.{Context, context, keys, presences, links, registers, content, Register}
+use Rattle.jc_rules.specs.WellFormed.{IsWellFormedContext}
+use Rattle.jc_tree.specs.declared.store.Hint.{Hint}
+use Rattle.jc_tree.specs.Tree.{Tree, HasPlace, here, all_keys, keys_lent}
+use Rattle.jc_tree.specs.Walks.{entry_of, entries_at}
+use Rattle.jc_tree.proofs.WalksEntriesLemmas.{all-left, all-right, all_entries, entries_at-more}
+use Rattle.jc_tree.proofs.WellFormedLemmas.{presences_rise}
 use Rattle.jc_meaning.proofs.ComparedContextsLemmas.{StandsBelow, stands_below}
 use Rattle.jc_view.specs.declared.document.Branch.{Branch}
 use Rattle.jc_view.specs.declared.document.Branch.TheVariants as B
@@ -31,7 +33,7 @@ use Rattle.jc_json.specs.Gains.{Gains}
 use Rattle.jc_view.specs.Parts.{parts_shown_at, node_json, child_json, shows_at, tag_of, form_of, members_front, member_shown, items_front, part_tokens, values_tokens, first_tokens, if_so}
 use Rattle.jc_view.proofs.PresentLemmas.{present_by, place_is}
 use Rattle.jc_view.proofs.ElementsLemmas.{items_tokens_are}
-use Rattle.jc_json.proofs.GainsLemmas.{Wrote, wrote_begins}
+use Rattle.jc_json.proofs.GainsLemmas.{gains_then}
 
 pub members_tokens_are : (show : Key → Json) (p : List (Key × List Id)) → members_tokens (members_at show p) ≡ members_front show p ++ T.end_object ∷ []
 members_tokens_are show [] = refl
@@ -54,21 +56,32 @@ present-append [] q = refl
 present-append ((k, []) ∷ p) q = present-append p q
 present-append ((k, i ∷ is) ∷ p) q = ap (λ r. (k, i ∷ is) ∷ r) (present-append p q)
 
-pub rest_is : (show : Key → Json) (c : Context) (last : Option Key) (k : Key) → is_after last k ≡ true → AllByRecursion (λ j. is_after last j ≡ true → key_cmp k j ≢ Greater) (keys_of (presences c)) → IsRising key_cmp (keys_of (presences c))
-    → members_front show (present (keys_above last (presences c))) ≡ member_shown show k c ++ members_front show (present (keys_above (Some k) (presences c)))
-rest_is show c last k a h r =
-    ap (λ p. members_front show (present p)) (step last k (presences c) a h r)
-    ∙ ap (members_front show) (present-append (entry_of k (find key_cmp k (presences c))) (keys_above (Some k) (presences c)))
-    ∙ front-append show (present (entry_of k (find key_cmp k (presences c)))) (present (keys_above (Some k) (presences c)))
+one_lent_more : (lent : List (Bor Key × Hint)) (n : ℕ) (x : Bor Key × Hint) → n < length lent → x ≡ get_or lent n x → take (suc n) (keys_lent lent) ≡ take n (keys_lent lent) ++ x.0.now ∷ []
+one_lent_more [] n x h e = absurd (omega arith)
+one_lent_more (l ∷ lent) zero x h e = ap (λ (y : Bor Key × Hint). y.0.now ∷ []) (sym e)
+one_lent_more (l ∷ lent) (suc n) x h e = ap (λ ks. l.0.now ∷ ks) (one_lent_more lent n x (omega arith) e)
 
-pub map_begins : (show : Key → Json) (c : Context) (a : Written) → Wrote a a (members_front show (present (keys_above None (presences c)))) (members_front show (present (presences c)))
-map_begins show c a =
-    subst (λ (p : List (Key × List Id)). Wrote a a (members_front show (present p)) (members_front show (present (presences c)))) (sym (above-none (presences c))) (wrote_begins a _)
+-- the members at the first so many of the keys
+abbrev pub members_among : (Key → Json) → List (Bor Key × Hint) → ℕ → Context → List Token
+members_among show lent n c = members_front show (present (entries_at (take n (keys_lent lent)) (presences c)))
 
-pub map_ends : (show : Key → Json) (c : Context) (last : Option Key) (a b : Written) → AllByRecursion (λ j. is_after last j ≡ false) (keys_of (presences c)) → Wrote a b (members_front show (present (keys_above last (presences c)))) (members_front show (present (presences c)))
-    → Wrote a b [] (members_front show (present (presences c)))
-map_ends show c last a b h w =
-    subst (λ (p : List (Key × List Id)). Wrote a b (members_front show (present p)) (members_front show (present (presences c)))) (none_above last (presences c) h) w
+pub one_member_more : (show : Key → Json) (lent : List (Bor Key × Hint)) (n : ℕ) (x : Bor Key × Hint) (c : Context) (a b d : Written) → n < length lent → x ≡ get_or lent n x → Gains a b (members_among show lent n c) → Gains b d (member_shown show x.0.now c) → Gains a d (members_among show lent (suc n) c)
+one_member_more show lent n x c a b d h is before more =
+    let ks = take n (keys_lent lent) in
+    let one = entry_of x.0.now (find key_cmp x.0.now (presences c)) in
+    let all : members_among show lent (suc n) c ≡ members_among show lent n c ++ member_shown show x.0.now c =
+    ap (λ js. members_front show (present (entries_at js (presences c)))) (one_lent_more lent n x h is)
+    ∙ ap (λ p. members_front show (present p)) (entries_at-more ks x.0.now (presences c))
+    ∙ ap (members_front show) (present-append (entries_at ks (presences c)) one)
+    ∙ front-append show (present (entries_at ks (presences c))) (present one) in
+    subst (Gains a d) (sym all) (gains_then a b d (members_among show lent n c) (member_shown show x.0.now c) before more)
+
+-- at all keys these are all members
+pub all_members : (show : Key → Json) (lent : List (Bor Key × Hint)) (n : ℕ) (c : Context) → length lent ≤ n → IsWellFormedContext c → IsRising key_cmp (keys_lent lent) → AllByRecursion (Contains (keys_lent lent)) (all_keys c) → members_among show lent n c ≡ members_front show (present (presences c))
+all_members show lent n c h kept r all =
+    let whole : take n (keys_lent lent) ≡ keys_lent lent = take_all n (keys_lent lent) (omega (arith, h, length-map lent (λ (l : Bor Key × Hint). l.0.now))) in
+    let those = all-right (Contains (keys_lent lent)) (keys c) (keys_of (presences c)) (all-left (Contains (keys_lent lent)) (keys c ++ keys_of (presences c)) (keys_of (links c)) all) in
+    ap (λ ks. members_front show (present (entries_at ks (presences c)))) whole ∙ ap (λ p. members_front show (present p)) (all_entries (keys_lent lent) (presences c) r (presences_rise c kept) those)
 
 -- a member, if its key is a name that is present
 pub member_by : (show : Key → Json) (s : List ℕ) (c : Context) (b : Bool) → b ≡ is_some (find key_cmp (K.Name s) (present (presences c))) → IsRising key_cmp (keys_of (presences c))

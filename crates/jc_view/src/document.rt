@@ -1,6 +1,6 @@
 //! Writes the document of a replica as JSON, and the line that holds it. `view_replica` calls `view_line`.
 
-ghost use Rattle.std.specs.Prelude.{◌≡◌, ◌≢◌, ◌∷◌, ◌++◌, [], List, true, is_some, Some, None, IfOk, IfSome, OnOk, codes};
+ghost use Rattle.std.specs.Prelude.{◌≡◌, ◌≢◌, ◌∷◌, ◌++◌, [], List, true, is_some, Some, None, IfOk, IfSome, OnOk, MatchOption, codes};
 ghost use Rattle.json.specs.Json.{member, no_members, object};
 ghost use Rattle.json.specs.Token as T;
 ghost use Rattle.json.specs.Tree.{json_tokens};
@@ -22,7 +22,7 @@ use crate::alive::is_alive;
 use jc_json::{Numbers, write_pairs, write_value};
 use jc_replica::Replica;
 use jc_rules::{Id, Key, Next, Tagged, Text, Value};
-use jc_tree::{ANYWHERE, KeyAt, KeysOf, Place, TreeStore};
+use jc_tree::{ANYWHERE, Hint, KeyAt, Place, TreeStore};
 use json::Writer;
 use std::alloc::{AllocError, Global};
 
@@ -172,16 +172,21 @@ fn write_name(alloc: Global, name: &str, out: &mut Writer) -> Result<(), AllocEr
     }
 }
 
-/// The element that follows a key of a list.
-fn element_after<S: TreeStore>(store: &S, place: Place, key: &Key) -> Option<Id>
+/// The element that follows a key of a list, and where to look first for it.
+fn element_after<S: TreeStore>(
+    store: &S,
+    place: Place,
+    key: &Key,
+    hint: Hint,
+) -> Option<(Id, Hint)>
     requires { (at : List AnyTagged) × S.names store.now place at }
-    ensures some { (at : List AnyTagged) → S.names store.now place at
-        → (i : AnyId) → result ≡ Some i → next_of key.now (here at (S.tree store.now)) ≡ Some (To i) }
-    ensures none { (at : List AnyTagged) → S.names store.now place at
-        → result ≡ None → (i : AnyId) → next_of key.now (here at (S.tree store.now)) ≢ Some (To i) }
+    ensures { (at : List AnyTagged) → S.names store.now place at → MatchOption result
+        ((i : AnyId) → next_of key.now (here at (S.tree store.now)) ≢ Some (To i))
+        (λ next. next_of key.now (here at (S.tree store.now)) ≡ Some (To next.0)) }
 {
-    match store.step_by(place, key, ANYWHERE).next {
-        Some(Next::Elem(id)) => Some(id),
+    let step = store.step_by(place, key, hint);
+    match step.next {
+        Some(Next::Elem(id)) => Some((id, step.hint)),
         _ => None,
     }
 }
@@ -390,12 +395,10 @@ fn write_map<S: TreeStore>(
         (here at.old.items (S.tree view.now.store.now))))) }
     ensures path { OnOk result (at.new.items ≡ at.old.items) }
 {
-    let hint = ANYWHERE;
     out.begin_object()?;
-    let mut last = None;
-    while let Some(key) = view.store.after_at(place, KeysOf::Presence, last) {
+    let keys = view.store.keys_at(view.alloc, place)?;
+    for &(key, hint) in keys.as_slice() {
         write_member(view, at, KeyAt { place, key, hint }, out)?;
-        last = Some(key);
     }
     out.end_object()
 }
@@ -415,12 +418,13 @@ fn write_list<S: TreeStore>(
         (here at.old.items (S.tree view.now.store.now))))) }
     ensures path { OnOk result (at.new.items ≡ at.old.items) }
 {
-    let hint = ANYWHERE;
     out.begin_array()?;
-    let mut key = Key::Head;
-    while let Some(id) = element_after(view.store, place, &key) {
-        key = Key::Elem(id);
-        let key = &key;
+    let mut last = Key::Head;
+    let mut hint = ANYWHERE;
+    while let Some((id, ahead)) = element_after(view.store, place, &last, hint) {
+        last = Key::Elem(id);
+        hint = ahead;
+        let key = &last;
         write_item(view, at, KeyAt { place, key, hint }, out)?;
     }
     out.end_array()

@@ -1,4 +1,4 @@
-use Rattle.std.proofs.Common.{rules, ℕ, ◌≡◌, ◌≢◌, ◌<◌, List, [], ◌∷◌, ◌++◌, Bool, true, false, is_some, Some, option_copied, codes, refl, arith, ap, sym, ◌∙◌, subst}
+use Rattle.std.proofs.Common.{rules, ℕ, ◌≡◌, ◌≢◌, ◌<◌, List, [], ◌∷◌, ◌++◌, Bool, true, false, is_some, Some, codes, refl, arith, add-one, ap, sym, ◌∙◌, subst}
 use Rattle.std.specs.List.{AllByRecursion}
 use Rattle.std.proofs.lemmas.Result.{on_ok_weaker}
 use Rattle.json.specs.Json.{object, member, no_members}
@@ -16,9 +16,8 @@ use Rattle.jc_rules.specs.Order.{key_cmp}
 use Rattle.jc_rules.specs.Entries.{keys_of, find}
 use Rattle.jc_rules.specs.Context.{presences, registers, next, Register}
 use Rattle.jc_rules.specs.WellFormed.{IsWellFormedContext}
-use Rattle.jc_tree.specs.Tree.{HasPlace, here, is_after, least_after}
+use Rattle.jc_tree.specs.Tree.{HasPlace, here}
 use Rattle.jc_tree.specs.Nested.{nested}
-use Rattle.jc_tree.proofs.WalksLemmas.{IsNext, next_is, none_is}
 use Rattle.jc_tree.proofs.ChainedBelowLemmas.{list_here}
 use Rattle.jc_cursor.proofs.ElementsLemmas.{nearer}
 use Rattle.jc_tree.proofs.WellFormedLemmas.{presences_rise}
@@ -29,9 +28,9 @@ use Rattle.jc_view.specs.declared.document.Form.TheVariants as F
 use Rattle.jc_view.specs.Visible.{goes_by, or_no_value, present, marked, map_json, list_json, parts_json}
 use Rattle.jc_json.specs.Gains.{Gains}
 use Rattle.jc_view.specs.Parts.{parts_shown_at, node_json, child_json, member_shown, item_of, shows_at, form_of, first_tokens, part_tokens, values_tokens, if_so, tag_of}
-use Rattle.jc_json.proofs.GainsLemmas.{gains_nothing, gains_one, gains_then, wrote_more, wrote_end, gains_between}
+use Rattle.jc_json.proofs.GainsLemmas.{gains_nothing, gains_one, gains_then, wrote_end, gains_between}
 use Rattle.jc_view.proofs.ElementsLemmas.{along_begins, along_on, along_ends}
-use Rattle.jc_view.proofs.MembersLemmas.{map_begins, rest_is, map_ends, member_by, every_is, place_by, map_is, list_is, child_stands, child_is}
+use Rattle.jc_view.proofs.MembersLemmas.{one_member_more, all_members, member_by, every_is, place_by, map_is, list_is, child_stands, child_is}
 use Rattle.jc_view.proofs.document.+walk.Goals as goal
 use Rattle.jc_view.proofs.document.+walk.Goals.{write_child-in-Map+in_ok-write_map-in-Map, write_child-in-List+in_ok-write_list-in-List}
 
@@ -124,9 +123,9 @@ write_list-loop-id-smaller g t c =
     let tree = g.S.TreeStore.tree c.args.view.now.store.now in
     let at = c.args.at.now.items in
     let there : HasPlace at tree = g.met.S.TreeStore.there c.args.view.now.store.now c.args.place at c.requires.named in
-    let k = c.loop-id.key in
+    let k = c.loop-id.last in
     let id = c.in-Some.id in
-    let n : next k (here at tree) ≡ Some (To id) = c.element_after.ensures.some at c.requires.named id c.in-Some.is in
+    let n : next k (here at tree) ≡ Some (To id) = c.in-Some.ensures at c.requires.named in
     nearer (here at tree) k (K.Elem id) id (λ f. list_here at k (To id) tree there f c.requires.chained) n refl
 
 pub write_list-loop-id-preserved : goal.write_list-loop-id-preserved
@@ -136,9 +135,9 @@ write_list-loop-id-preserved g t c =
     let d = here at tree in
     let show = parts_shown_at c.args.view.now.names.now (goes_by c.args.view.now.replica.now.history.now) at d in
     let there : HasPlace at tree = g.met.S.TreeStore.there c.args.view.now.store.now c.args.place at c.requires.named in
-    let k = c.loop-id.key in
+    let k = c.loop-id.last in
     let id = c.in-Some.id in
-    let n : next k d ≡ Some (To id) = c.element_after.ensures.some at c.requires.named id c.in-Some.is in
+    let n : next k d ≡ Some (To id) = c.in-Some.ensures at c.requires.named in
     let gains : Gains c.loop-id.out c.write_item.new.out (item_of show (K.Elem id) d) =
     subst (λ (s : List Tagged). Gains c.loop-id.out c.write_item.new.out (item_of (parts_shown_at c.args.view.now.names.now (goes_by c.args.view.now.replica.now.history.now) s (here s tree)) (K.Elem id) (here s tree))) c.loop-id.invariant.0 c.in_ok-write_item.ensures.written in (
       c.in_ok-write_item.ensures.path ∙ c.loop-id.invariant.0,
@@ -152,47 +151,28 @@ write_list-returns-clause-written g t c =
     let names = c.args.view.now.names.now in
     let goes = goes_by c.args.view.now.replica.now.history.now in
     let d = here at tree in
-    let k = c.loop-id.key in
-    let none = c.element_after.ensures.none at c.requires.named c.in_default.is in
     let begun : Gains c.args.out.now c.begin_array.new.self (T.begin_array ∷ []) = search rules in
-    let written = wrote_end _ _ _ (along_ends (parts_shown_at names goes at d) d k _ _ none c.loop-id.invariant.1) in
+    let written = wrote_end _ _ _ (along_ends (parts_shown_at names goes at d) d c.loop-id.last _ _ (c.in_default.ensures at c.requires.named) c.loop-id.invariant.1) in
     on_ok_weaker c.end_array.result
     (λ o. gains_between c.args.out.now c.begin_array.new.self c.loop-id.out c.end_array.new.self T.begin_array T.end_array _ _ (list_is names goes at d) begun written (record { before = c.end_array.ensures.room.0; tokens = o }))
     c.end_array.ensures.ok
 
 pub write_map-loop-key-init : goal.write_map-loop-key-init
-write_map-loop-key-init g t c =
-    let tree = g.S.TreeStore.tree c.args.view.now.store.now in
-    let at = c.args.at.now.items in
-    let d = here at tree in
-    let show = parts_shown_at c.args.view.now.names.now (goes_by c.args.view.now.replica.now.history.now) at d in
-    (refl, map_begins show d _)
-
-pub write_map-loop-key-smaller : goal.write_map-loop-key-smaller
-write_map-loop-key-smaller g t c =
-    let tree = g.S.TreeStore.tree c.args.view.now.store.now in
-    let d = here c.args.at.now.items tree in
-    let last = option_copied c.loop-key.last in
-    let key = c.in-Some.key.now in
-    let n : IsNext last (keys_of (presences d)) key = next_is last (keys_of (presences d)) key (sym (c.in-Some.ensures c.args.at.now.items c.requires.named)) in
-    n.fewer
+write_map-loop-key-init g t c = (refl, gains_nothing _)
 
 pub write_map-loop-key-preserved : goal.write_map-loop-key-preserved
 write_map-loop-key-preserved g t c =
     let tree = g.S.TreeStore.tree c.args.view.now.store.now in
     let at = c.args.at.now.items in
     let d = here at tree in
-    let names = c.args.view.now.names.now in
-    let goes = goes_by c.args.view.now.replica.now.history.now in
-    let there : HasPlace at tree = g.met.S.TreeStore.there c.args.view.now.store.now c.args.place at c.requires.named in
-    let last = option_copied c.loop-key.last in
-    let key = c.in-Some.key.now in
-    let n : IsNext last (keys_of (presences d)) key = next_is last (keys_of (presences d)) key (sym (c.in-Some.ensures at c.requires.named)) in
-    let kept : IsWellFormedContext d = kept_here at tree there (g.met.S.TreeStore.kept c.args.view.now.store.now) in
-    let gains : Gains c.loop-key.out c.write_member.new.out (member_shown (parts_shown_at names goes at d) key d) =
-    subst (λ (s : List Tagged). Gains c.loop-key.out c.write_member.new.out (member_shown (parts_shown_at names goes s (here s tree)) key (here s tree))) c.loop-key.invariant.0 c.in_ok-write_member.ensures.written in (
+    let show = parts_shown_at c.args.view.now.names.now (goes_by c.args.view.now.replica.now.history.now) at d in
+    let lent = c.as_slice-key-items.result.now in
+    let n = c.loop-key.key-index in
+    let lent_key = c.loop-key-item.result in
+    let gains : Gains c.loop-key.out c.write_member.new.out (member_shown show lent_key.0.now d) =
+    subst (λ (s : List Tagged). Gains c.loop-key.out c.write_member.new.out (member_shown (parts_shown_at c.args.view.now.names.now (goes_by c.args.view.now.replica.now.history.now) s (here s tree)) lent_key.0.now (here s tree))) c.loop-key.invariant.0 c.in_ok-write_member.ensures.written in (
       c.in_ok-write_member.ensures.path ∙ c.loop-key.invariant.0,
-      wrote_more _ _ _ _ _ _ _ (rest_is (parts_shown_at names goes at d) d last key n.after n.below (presences_rise d kept)) gains c.loop-key.invariant.1,
+      rw add-one (one_member_more show lent n lent_key d _ _ _ c.loop-key-test.true c.loop-key-item.is c.loop-key.invariant.1 gains),
     )
 
 pub write_map-returns-clause-written : goal.write_map-returns-clause-written
@@ -202,11 +182,12 @@ write_map-returns-clause-written g t c =
     let names = c.args.view.now.names.now in
     let goes = goes_by c.args.view.now.replica.now.history.now in
     let d = here at tree in
-    let last = option_copied c.loop-key.last in
-    let all : AllByRecursion (λ j. is_after last j ≡ false) (keys_of (presences d)) =
-    none_is last (keys_of (presences d)) (sym (c.in_default.ensures at c.requires.named)) in
+    let there : HasPlace at tree = g.met.S.TreeStore.there c.args.view.now.store.now c.args.place at c.requires.named in
+    let lent = c.as_slice-key-items.result.now in
+    let kept : IsWellFormedContext d = kept_here at tree there (g.met.S.TreeStore.kept c.args.view.now.store.now) in
+    let all = all_members (parts_shown_at names goes at d) lent c.loop-key.key-index d c.loop-key-test.false kept (rw c.as_slice-key-items.ensures.value c.in_ok-keys.ensures.rising) (rw c.as_slice-key-items.ensures.value (c.in_ok-keys.ensures.all at c.requires.named)) in
     let begun : Gains c.args.out.now c.begin_object.new.self (T.begin_object ∷ []) = search rules in
-    let written = wrote_end _ _ _ (map_ends (parts_shown_at names goes at d) d last _ _ all c.loop-key.invariant.1) in
+    let written = subst (Gains c.begin_object.new.self c.loop-key.out) all c.loop-key.invariant.1 in
     on_ok_weaker c.end_object.result
     (λ o. gains_between c.args.out.now c.begin_object.new.self c.loop-key.out c.end_object.new.self T.begin_object T.end_object _ _ (map_is names goes at d) begun written (record { before = c.end_object.ensures.room.0; tokens = o }))
     c.end_object.ensures.ok
