@@ -31,7 +31,7 @@ pub any_in-clear_list-requires : goal.any_in-clear_list-requires
 any_in-clear_list-requires g t c =
     let m = c.in_ok-maps.ensures.names_stay _ _ c.requires.1 in
     let x = after_call _ _ _ _ _ _ _ (g.met.S.TreeStore.there _ _ _ c.requires.1) (c.in_ok-maps.ensures.ok _ c.requires.1) in
-    λ κs h. (omega (arith, x.nested, sized _ _ (g.S.TreeStore.tree c.args.store.now) (g.met.S.TreeStore.one _ _ _ c.requires.1), sized _ _ (g.S.TreeStore.tree c.clear_map.new.store) (g.met.S.TreeStore.one _ _ _ m)), (h, (c.requires.0, (m, x.below c.requires.2))))
+    λ κs h. (omega (arith, x.nested, sized _ _ (g.S.TreeStore.tree c.args.store.now) (g.met.S.TreeStore.one _ _ _ c.requires.1), sized _ _ (g.S.TreeStore.tree c.clear_map.new.store) (g.met.S.TreeStore.one _ _ _ m)), (h, (c.requires.0, m, x.below c.requires.2)))
 
 pub any_in-united-requires : goal.any_in-united-requires
 any_in-united-requires g t c = (c.in_ok-lists.ensures.ok _ (c.in_ok-maps.ensures.names_stay _ _ c.requires.1)).rises
@@ -57,7 +57,7 @@ pub clear_map-map_in-requires : goal.clear_map-map_in-requires
 clear_map-map_in-requires g t c =
     let m = c.in-Some.ensures.named _ c.requires.1 in
     let x = down_map _ _ (g.S.TreeStore.tree c.args.store.now) (g.met.S.TreeStore.there _ _ _ c.requires.1) (sym (c.in-Some.ensures.some _ c.requires.1)) c.requires.2 in
-    λ κs h. (omega (arith, x.smaller, sized _ _ (g.S.TreeStore.tree c.args.store.now) (g.met.S.TreeStore.one _ _ _ c.requires.1), sized _ _ (g.S.TreeStore.tree c.args.store.now) (g.met.S.TreeStore.one _ _ _ m)), (h, (_, (m, x.chained))))
+    λ κs h. (omega (arith, x.smaller, sized _ _ (g.S.TreeStore.tree c.args.store.now) (g.met.S.TreeStore.one _ _ _ c.requires.1), sized _ _ (g.S.TreeStore.tree c.args.store.now) (g.met.S.TreeStore.one _ _ _ m)), (h, (_, m, x.chained)))
 
 pub clear_map-returns-clause-ok : goal.clear_map-returns-clause-ok
 clear_map-returns-clause-ok g t c at n =
@@ -71,7 +71,7 @@ pub clear_list-list_in-requires : goal.clear_list-list_in-requires
 clear_list-list_in-requires g t c =
     let m = c.in-Some.ensures.named _ c.requires.1 in
     let x = down_list _ _ (g.S.TreeStore.tree c.args.store.now) (g.met.S.TreeStore.there _ _ _ c.requires.1) (sym (c.in-Some.ensures.some _ c.requires.1)) c.requires.2 in
-    λ κs h. (omega (arith, x.smaller, sized _ _ (g.S.TreeStore.tree c.args.store.now) (g.met.S.TreeStore.one _ _ _ c.requires.1), sized _ _ (g.S.TreeStore.tree c.args.store.now) (g.met.S.TreeStore.one _ _ _ m)), (h, (_, (m, x.chained))))
+    λ κs h. (omega (arith, x.smaller, sized _ _ (g.S.TreeStore.tree c.args.store.now) (g.met.S.TreeStore.one _ _ _ c.requires.1), sized _ _ (g.S.TreeStore.tree c.args.store.now) (g.met.S.TreeStore.one _ _ _ m)), (h, (_, m, x.chained)))
 
 pub clear_list-returns-clause-ok : goal.clear_list-returns-clause-ok
 clear_list-returns-clause-ok g t c at n =
@@ -119,7 +119,7 @@ list_in-elem_in-requires g t c =
     let q = subst (λ (r : List Tagged). g.S.TreeStore.names c.args.store.now c.args.place r) (sym (g.met.S.TreeStore.one _ _ _ c.requires.1)) c.requires.1 in
     let m = c.loop-key.invariant.names_stay _ _ q in
     let x = after_along _ _ _ _ _ _ _ _ (g.met.S.TreeStore.there _ _ _ q) c.loop-key.invariant.along in
-    λ κs h. (omega (arith, x.nested, sized _ _ (g.S.TreeStore.tree c.loop-key.store) (g.met.S.TreeStore.one _ _ _ m)), (h, (_, (m, x.below (below-list _ (subst (λ (r : List Tagged). IsChainedList (here r (g.S.TreeStore.tree c.args.store.now))) (sym (g.met.S.TreeStore.one _ _ _ c.requires.1)) c.requires.2))))))
+    λ κs h. (omega (arith, x.nested, sized _ _ (g.S.TreeStore.tree c.loop-key.store) (g.met.S.TreeStore.one _ _ _ m)), (h, (_, m, x.below (below-list _ (subst (λ (r : List Tagged). IsChainedList (here r (g.S.TreeStore.tree c.args.store.now))) (sym (g.met.S.TreeStore.one _ _ _ c.requires.1)) c.requires.2)))))
 
 pub list_in-united-requires : goal.list_in-united-requires
 list_in-united-requires g t c = c.loop-key.invariant.along.turn.rises
@@ -160,7 +160,7 @@ map_in-elem_in-requires g t c =
     let q = subst (λ (r : List Tagged). g.S.TreeStore.names c.args.store.now c.args.place r) (sym (g.met.S.TreeStore.one _ _ _ c.requires.1)) c.requires.1 in
     let m = c.loop-key.invariant.names_stay _ _ q in
     let x = after_keys _ _ _ _ _ _ _ _ (g.met.S.TreeStore.there _ _ _ q) c.loop-key.invariant.through in
-    λ κs h. (omega (arith, x.nested, sized _ _ (g.S.TreeStore.tree c.loop-key.store) (g.met.S.TreeStore.one _ _ _ m)), (h, (_, (m, x.below (subst (λ (r : List Tagged). AreChainedBelow (here r (g.S.TreeStore.tree c.args.store.now))) (sym (g.met.S.TreeStore.one _ _ _ c.requires.1)) c.requires.2)))))
+    λ κs h. (omega (arith, x.nested, sized _ _ (g.S.TreeStore.tree c.loop-key.store) (g.met.S.TreeStore.one _ _ _ m)), (h, (_, m, x.below (subst (λ (r : List Tagged). AreChainedBelow (here r (g.S.TreeStore.tree c.args.store.now))) (sym (g.met.S.TreeStore.one _ _ _ c.requires.1)) c.requires.2))))
 
 pub map_in-united-requires : goal.map_in-united-requires
 map_in-united-requires g t c = c.loop-key.invariant.through.through.turn.rises
@@ -170,7 +170,7 @@ map_in-loop-key-preserved g t c =
     let q = subst (λ (r : List Tagged). g.S.TreeStore.names c.args.store.now c.args.place r) (sym (g.met.S.TreeStore.one _ _ _ c.requires.1)) c.requires.1 in
     let m = c.loop-key.invariant.names_stay _ _ q in
     record {
-      through = keys_on _ _ _ _ _ _ _ _ _ _ _ _ _ _ _ (g.met.S.TreeStore.there _ _ _ q) (ap keys_of (drop_more c.as_slice-key-items.result.now c.loop-key.key-index c.loop-key-item.result c.loop-key-test.true ∙ ap (λ e. e ∷ drop (c.loop-key.key-index + 1) c.as_slice-key-items.result.now) (sym c.loop-key-item.is))) c.loop-key.invariant.through (c.in_ok-more.ensures.ok _ m) c.in_ok-open.ensures.ok (c.in_ok-ids.ensures ∙ ap (union c.loop-key.ids.items) c.as_slice-in-loop-key.ensures.value);
+      through = keys_on _ _ _ _ _ _ _ _ _ _ _ _ _ _ _ (g.met.S.TreeStore.there _ _ _ q) (ap keys_of (drop_more c.as_slice-key-items.result.now c.loop-key.key-index c.loop-key-item.result c.loop-key-test.true ∙ ap (λ e. e ∷ drop (c.loop-key.key-index + 1) c.as_slice-key-items.result.now) (sym c.loop-key-item.is))) c.loop-key.invariant.through (c.in_ok-more.ensures.ok _ m) c.in_ok-open.ensures.ok (c.in_ok-ids.ensures ∙ ap (union c.loop-key.ids.items) c.as_slice.ensures.value);
       names_stay = λ p q h. c.in_ok-more.ensures.names_stay p q (c.loop-key.invariant.names_stay p q h);
       kept = then _ _ _ _ _ _ c.loop-key.invariant.kept (then _ _ _ _ _ _ (rule_opened _ _ _ _ R.ClearMap2 refl c.in_ok-open.ensures.ok) c.in_ok-more.ensures.kept);
     }
@@ -333,8 +333,8 @@ elem_in-presence_of-requires g t c = (c.requires.0, c.in_ok-below.ensures.names_
 pub elem_in-put_presence-requires-clause-named : goal.elem_in-put_presence-requires-clause-named
 elem_in-put_presence-requires-clause-named g t c = (c.requires.0, c.in_ok-below.ensures.names_stay _ _ c.requires.1)
 
-pub list_in-step_by-requires : goal.list_in-step_by-requires
-list_in-step_by-requires g t c = (c.requires.0, c.loop-key.invariant.names_stay _ _ c.requires.1)
+pub list_in-step_by-step-requires : goal.list_in-step_by-step-requires
+list_in-step_by-step-requires g t c = (c.requires.0, c.loop-key.invariant.names_stay _ _ c.requires.1)
 
 pub map_in-clear_first-requires : goal.map_in-clear_first-requires
 map_in-clear_first-requires g t c = (c.requires.0, c.requires.1)

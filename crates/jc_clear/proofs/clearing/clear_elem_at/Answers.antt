@@ -8,7 +8,7 @@ use Rattle.jc_clear.proofs.clearing.clear_elem_at.Goals as goal
 pub elem_in-requires : goal.elem_in-requires
 elem_in-requires g c =
     let n = c.requires.named in
-    (n.0, (n.1, chained_here n.0 (g.S.TreeStore.tree c.args.store.now) (g.met.S.TreeStore.there _ _ _ n.1) c.requires.chained))
+    (n.0, n.1, chained_here n.0 (g.S.TreeStore.tree c.args.store.now) (g.met.S.TreeStore.there _ _ _ n.1) c.requires.chained)
 
 pub returns-in-Ok-clause-chained : goal.returns-in-Ok-clause-chained
 returns-in-Ok-clause-chained g c =
