@@ -64,11 +64,8 @@ module _ (at : List Tagged) (c : Context) (h : node_at at c ≢ None) where
       subst (λ o. nested (or_empty o) < nested (context_at at c)) (sym (below t)) (smaller_below t (context_at at c) (λ e. g (below t ∙ e)))
 
   -- is the child that is found
-  pub map_is : (k : Key) (ks : List Tagged) → ks ≡ at ++ MapT k ∷ [] → true ≡ is_some (content (MapT k) (context_at at c)) → Some (context_at ks c) ≡ find key_cmp k (maps (context_at at c))
-  map_is k ks is e = ap (λ o. Some (or_empty o)) (ap (λ (js : List Tagged). node_at js c) is ∙ below (MapT k)) ∙ child_found (find key_cmp k (maps (context_at at c))) e
-
-  pub list_is : (k : Key) (ks : List Tagged) → ks ≡ at ++ ListT k ∷ [] → true ≡ is_some (content (ListT k) (context_at at c)) → Some (context_at ks c) ≡ find key_cmp k (lists (context_at at c))
-  list_is k ks is e = ap (λ o. Some (or_empty o)) (ap (λ (js : List Tagged). node_at js c) is ∙ below (ListT k)) ∙ child_found (find key_cmp k (lists (context_at at c))) e
+  pub child_is : (t : Tagged) (o : Option Context) (ks : List Tagged) → content t (context_at at c) ≡ node_of o → ks ≡ at ++ t ∷ [] → true ≡ is_some (node_of o) → Some (context_at ks c) ≡ o
+  child_is t o ks found is e = ap (λ o. Some (or_empty o)) (ap (λ (js : List Tagged). node_at js c) is ∙ below t ∙ ap node_in found) ∙ child_found o e
 
 -- ---- the entries of one kind
 
@@ -129,11 +126,12 @@ abbrev pub part_size : (Place → Context) → Part → ℕ
 part_size contexts (P.Child p) = 2 * nested (contexts p) + 2
 part_size contexts _ = 0
 
-pub part_smaller : (named : Place → List Tagged → Type 0) (path : Place → List Tagged) (tree : Tree) → ((p : Place) (at : List Tagged) → named p at → path p ≡ at) → ((p : Place) (at : List Tagged) → named p at → HasPlace at tree) → (at : List Tagged) (t : Tagged) (part : Part)
-    → HasPlace at tree → IsPartAt named (at ++ t ∷ []) part → part_size (by_place path tree) part < 2 * nested (here at tree) + 1
-part_smaller named path tree one there at t (P.Child p) h is =
-    let small : nested (here (at ++ t ∷ []) tree) < nested (here at tree) = nested_below at tree.now h t (there p (at ++ t ∷ []) is) in
-    rw (one p (at ++ t ∷ []) is) (omega (arith, small))
-part_smaller named path tree one there at t (P.Register r) h is = omega arith
-part_smaller named path tree one there at t (P.Presence ids) h is = omega arith
-part_smaller named path tree one there at t (P.Link n) h is = omega arith
+-- a part of the context at a place is smaller than that context
+pub part_smaller : (named : Place → List Tagged → Type 0) (path : Place → List Tagged) (tree : Tree) → ((p : Place) (at : List Tagged) → named p at → path p ≡ at) → ((p : Place) (at : List Tagged) → named p at → HasPlace at tree)
+    → (place : Place) (at : List Tagged) (t : Tagged) (part : Part) → named place at → IsPartAt named (at ++ t ∷ []) part → part_size (by_place path tree) part < 2 * nested (by_place path tree place) + 1
+part_smaller named path tree one there place at t (P.Child p) h is =
+    let small = nested_below at tree.now (there place at h) t (there p (at ++ t ∷ []) is) in
+    rw (one p (at ++ t ∷ []) is, one place at h) (omega (arith, small))
+part_smaller named path tree one there place at t (P.Register r) h is = omega arith
+part_smaller named path tree one there place at t (P.Presence ids) h is = omega arith
+part_smaller named path tree one there place at t (P.Link n) h is = omega arith

@@ -23,5 +23,5 @@ invariant-send_tree-loop-member g l =
     let named = g.S.TreeStore.names store in
     let tree = g.S.TreeStore.tree store in
     let contexts = by_place (g.S.TreeStore.path store) tree in
-    ((at : List Tagged) → named l.place at → AreMembersOf named contexts at l.tree.names.now (here at tree) l.member-items)
+    ((at : List Tagged) → named l.fn.place at → AreMembersOf named contexts at l.tree.names.now (here at tree) l.member-items)
     × MembersFrom (members_data l.tree.names.now contexts) l.member-items l.member-index (g.W.Serializer.written l.initial.out) (g.W.Serializer.written l.out)

@@ -1,9 +1,9 @@
-use Rattle.std.proofs.Common.{rules, ◌≡◌, None, Some, sym, ◌∙◌}
+use Rattle.std.proofs.Common.{rules, ◌≡◌, None, Some, refl, sym, ◌∙◌}
 use Rattle.serde_json.specs.Data.{string}
 use Rattle.jc_rules.specs.Context.{maps, lists, registers, presences, links}
 use Rattle.jc_tree.specs.Tree.{here}
 use Rattle.jc_json.specs.Json.{next_text, ids_data, register_data, context_data}
-use Rattle.jc_json.proofs.PartsPlacesLemmas.{value_shown, no_child_found, map_is, list_is}
+use Rattle.jc_json.proofs.PartsPlacesLemmas.{value_shown, no_child_found, child_is}
 use Rattle.jc_json.proofs.tree.part_at.Goals as goal
 
 pub returns-in_err-list_by-in-List-clause-shown : goal.returns-in_err-list_by-in-List-clause-shown
@@ -18,7 +18,7 @@ returns-in_ok-list_by-in-List-clause-shown g c = λ at named names.
     let child = c.in_ok-list_by-in-List.field-0 in
     let path = g.met.S.TreeStore.one store child _ (c.in_ok-list_by-in-List.ensures.named at named) in
     let there = g.met.S.TreeStore.there store c.args.key.place at named in
-    rw c.in-List.is (value_shown (context_data names) c.args.key.key.now (lists (here at tree)) (Some (here (g.S.TreeStore.path store child) tree)) (list_is at tree.now there c.args.key.key.now _ path (c.in_ok-list_by-in-List.ensures.some at named)))
+    rw c.in-List.is (value_shown (context_data names) c.args.key.key.now (lists (here at tree)) (Some (here (g.S.TreeStore.path store child) tree)) (child_is at tree.now there _ _ _ refl path (c.in_ok-list_by-in-List.ensures.some at named)))
 
 pub returns-in_err-map_by-in-Map-clause-shown : goal.returns-in_err-map_by-in-Map-clause-shown
 returns-in_err-map_by-in-Map-clause-shown g c = λ at named names.
@@ -32,7 +32,7 @@ returns-in_ok-map_by-in-Map-clause-shown g c = λ at named names.
     let child = c.in_ok-map_by-in-Map.field-0 in
     let path = g.met.S.TreeStore.one store child _ (c.in_ok-map_by-in-Map.ensures.named at named) in
     let there = g.met.S.TreeStore.there store c.args.key.place at named in
-    rw c.in-Map.is (value_shown (context_data names) c.args.key.key.now (maps (here at tree)) (Some (here (g.S.TreeStore.path store child) tree)) (map_is at tree.now there c.args.key.key.now _ path (c.in_ok-map_by-in-Map.ensures.some at named)))
+    rw c.in-Map.is (value_shown (context_data names) c.args.key.key.now (maps (here at tree)) (Some (here (g.S.TreeStore.path store child) tree)) (child_is at tree.now there _ _ _ refl path (c.in_ok-map_by-in-Map.ensures.some at named)))
 
 pub returns-in_err-step_by-in-Next-clause-shown : goal.returns-in_err-step_by-in-Next-clause-shown
 returns-in_err-step_by-in-Next-clause-shown g c = λ at named names.
