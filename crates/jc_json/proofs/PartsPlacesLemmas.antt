@@ -12,7 +12,7 @@ use Rattle.jc_rules.specs.ContextsAt.{node_at, node_in, context_at, or_empty}
 use Rattle.jc_rules.specs.WellFormed.{IsWellFormedContext}
 use Rattle.jc_rules.proofs.ContextsAtLemmas.{there}
 use Rattle.jc_tree.specs.declared.store.Place.{Place}
-use Rattle.jc_tree.specs.Tree.{Tree, HasPlace, here, all_keys}
+use Rattle.jc_tree.specs.Tree.{Tree, HasPlace, all_keys}
 use Rattle.jc_tree.specs.Nested.{nested, nested_in}
 use Rattle.jc_tree.proofs.PlacesLemmas.{no_node}
 use Rattle.jc_tree.proofs.TreeLemmas.{node-further}
@@ -49,13 +49,14 @@ found_smaller k (child j c cs) h = go (same_key k j) refl (found_smaller k cs) h
     go true f ih g = rw f (omega arith)
     go false f ih g = let r = ih (rw f at g) in rw f (omega (arith, r))
 
+-- and so is what a tagged key leads to
 smaller_below : (t : Tagged) (c : Context) → node_in (content t c) ≢ None → nested (or_empty (node_in (content t c))) < nested c
 smaller_below (MapT k) (context m l r p n) h = let small = found_smaller k m h in omega (arith, small)
 smaller_below (ListT k) (context m l r p n) h = let small = found_smaller k l h in omega (arith, small)
 smaller_below (RegT k) c h = absurd (h (no_node k c))
 
 module _ (at : List Tagged) (c : Context) (h : node_at at c ≢ None) where
-  -- the context one key further down
+  -- one key further down
   below : (t : Tagged) → node_at (at ++ t ∷ []) c ≡ node_in (content t (context_at at c))
   below t = node-further at t (context_at at c) c (there at c h)
 
@@ -63,7 +64,7 @@ module _ (at : List Tagged) (c : Context) (h : node_at at c ≢ None) where
   nested_below t g =
       subst (λ o. nested (or_empty o) < nested (context_at at c)) (sym (below t)) (smaller_below t (context_at at c) (λ e. g (below t ∙ e)))
 
-  -- is the child that is found
+  -- the context there is the child that is found under the key
   pub child_is : (t : Tagged) (o : Option Context) (ks : List Tagged) → content t (context_at at c) ≡ node_of o → ks ≡ at ++ t ∷ [] → true ≡ is_some (node_of o) → Some (context_at ks c) ≡ o
   child_is t o ks found is e = ap (λ o. Some (or_empty o)) (ap (λ (js : List Tagged). node_at js c) is ∙ below t ∙ ap node_in found) ∙ child_found o e
 
@@ -121,7 +122,7 @@ shown_among P names kind c a = go kind
 
 -- ---- parts
 
--- How far below a part the contexts go. A child goes further than its context, as it is sent by it.
+-- The measure of sending a part: a child's is above that of sending the context at its place.
 abbrev pub part_size : (Place → Context) → Part → ℕ
 part_size contexts (P.Child p) = 2 * nested (contexts p) + 2
 part_size contexts _ = 0
