@@ -181,18 +181,6 @@ added r at key i was a b t u has z =
     let x = adds at k key i m was a b (sym ke) ne has z in
     record { after = x.after; derives = tells k i m (here at a) x.after x.added; now = x.now })
 
--- a call that changes the tree or refuses
-pub tree_or_refused : {T E : Type 0} (r : Result T E) (at : List Tagged) (y : Context) (a b : Tree) (t u : Rows) → OnOk r (IsChanged at y a b) → OnErr r (b ≡ a) → u ≡ t → TreeCanGoBack a b t u
-tree_or_refused (Ok x) at y a b t u h f e = tree_changed a b t u at y h e
-tree_or_refused (Err x) at y a b t u h f e = nothing a b t u f e
-
--- a place stays where something was done
-pub after_clear : (q : Context → Question) (at : List Tagged) (a b : Tree) (ids : List Id) (t u : Rows) → HasPlace at a → Clears q at a b ids t u → HasPlace at b
-after_clear q at a b ids t u p x = then_place at x.after a b p x.now
-
-pub after_lead : (q : Context → Question) (at : List Tagged) (a b : Tree) (t u : Rows) → HasPlace at a → LeadsTo q at a b t u → HasPlace at b
-after_lead q at a b t u p x = then_place at x.after a b p x.now
-
 -- what is made under a map's or a list's tagged key is a context
 pub child_there : (t : Tagged) (c : Context) → HasContext t → is_some (node_in (content t (with_content t (new_content t) c))) ≡ true
 child_there (MapT k) (context m l r p n) h = rw (listed_children, found-put keys_total exact_keys) refl
