@@ -44,12 +44,12 @@ pub fn insert<S: TreeStore>(
     let (key, next) = pass(store, place, op, trace)?;
     trace.open(Rule::Insert1)?;
     let element = Key::Elem(op.id);
-    let new = KeyAt {
+    let at = KeyAt {
         place,
         key: &element,
         hint: ANYWHERE,
     };
-    assign(alloc, store, new, op, value, trace)?;
+    assign(alloc, store, at, op, value, trace)?;
     store.set_next_at(place, &key, Next::Elem(op.id))?;
     store.set_next_at(place, &element, next)?;
     trace.close(depth);

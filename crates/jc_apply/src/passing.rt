@@ -74,12 +74,7 @@ fn is_below(first: Id, second: Id) -> bool
 
 /// What the store tells of the elements behind the search's key, if their identifiers are all greater than the
 /// given one.
-fn stretch_above<S: TreeStore>(
-    store: &S,
-    place: Place,
-    search: &Search,
-    id: Id,
-) -> Option<Stretch>
+fn stretch_above<S: TreeStore>(store: &S, place: Place, search: &Search, id: Id) -> Option<Stretch>
     requires { (at : List AnyTagged) × S.names store.now place at }
     ensures some { IfSome result (λ s. 0 < s.count) }
     ensures most { IfSome result (λ s. s.count ≤ 64) }
