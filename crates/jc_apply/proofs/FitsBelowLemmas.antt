@@ -1,10 +1,9 @@
 -- About Fits: what fits a context fits the child that its path leads to.
-use Rattle.std.proofs.Common.{◌≡◌, ◌≢◌, List, [], ◌∷◌, Option, Some, None, subst}
+use Rattle.std.proofs.Common.{◌≡◌, List, ◌∷◌, Option, Some, None, subst}
 use Rattle.jc_rules.specs.declared.key.Key.{Key}
 use Rattle.jc_rules.specs.declared.key.Tagged.{Tagged}
 use Rattle.jc_rules.specs.declared.operation.Mutation.{Mutation}
-use Rattle.jc_rules.specs.declared.operation.Mutation.TheVariants.{Insert}
-use Rattle.jc_rules.specs.Context.{Context, next}
+use Rattle.jc_rules.specs.Context.{Context}
 use Rattle.jc_rules.specs.Paths.{HasContext}
 use Rattle.jc_apply.specs.Fits.{Fits, InChild, child_context}
 use Rattle.jc_apply.proofs.ReachLemmas.{has_context}
@@ -22,7 +21,3 @@ pub fits_below : (k : Tagged) (c : Context) (path rest : List Tagged) (last : Ke
 fits_below k c path rest last m e h =
     let g : InChild (child_context k c) (λ d. Fits d rest last m) = rw e at h in
     record { context = has_context k c (λ d. Fits d rest last m) g; fits = in_child (child_context k c) _ g }
-
--- where an insert fits, its place is linked
-pub fits_linked : (c : Context) (last : Key) (m : Mutation) (v : _) → m ≡ Insert v → Fits c [] last m → next last c ≢ None
-fits_linked c last m v e h = rw e at h

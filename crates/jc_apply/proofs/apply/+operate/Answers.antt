@@ -18,7 +18,7 @@ enter_below-requires g t c =
     let within : c.args.depth < length path = search rules in
     let w = way path c.as_slice-path.result.now c.args.depth c.index-path-depth.result c.as_slice-path.ensures.keys within c.index-path-depth.is in
     record {
-      named = (at, c.in_ok-was.ensures.names_stay c.args.place at c.requires.named);
+      named = (at, c.in_ok-was.ensures.names_stay _ _ c.requires.named);
       context = (fits_below c.index-path-depth.result (here at (g.S.TreeStore.tree c.args.store.now)) (drop c.args.depth path) (drop (c.args.depth + 1) path) c.args.op.now.cursor.last c.args.op.now.mutation w.rest c.requires.fits).context;
     }
 
@@ -31,10 +31,10 @@ operate-requires g t c κs h =
     let w = way path c.as_slice-path.result.now c.args.depth c.index-path-depth.result c.as_slice-path.ensures.keys within c.index-path-depth.is in
     let tree = g.S.TreeStore.tree c.args.store.now in
     let fits = fits_below c.index-path-depth.result (here at tree) (drop c.args.depth path) (drop (c.args.depth + 1) path) c.args.op.now.cursor.last c.args.op.now.mutation w.rest c.requires.fits in
-    let stays = c.in_ok-was.ensures.names_stay c.args.place at c.requires.named in
+    let stays = c.in_ok-was.ensures.names_stay _ _ c.requires.named in
     let entered = c.in_ok-child.ensures.ok at stays in
-    let is = child_added c.index-path-depth.result id c.args.op.now.mutation c.in_ok-was.was' at tree (g.S.TreeStore.tree c.add_op.new.store) (g.S.TreeStore.tree c.enter_below.new.store) c.open.new.self c.enter_below.new.trace (g.met.S.TreeStore.there c.args.store.now c.args.place at c.requires.named) (c.in_ok-was.ensures.ok at c.requires.named) entered in
-    let one_deeper : here (take (c.args.depth + 1) path) (g.S.TreeStore.tree c.enter_below.new.store) ≡ entered.below = child_here _ _ _ _ _ _ _ (g.met.S.TreeStore.there c.add_op.new.store c.args.place at stays) fits.context w.down entered in
+    let is = child_added c.index-path-depth.result id c.args.op.now.mutation c.in_ok-was.was' at tree (g.S.TreeStore.tree c.add_op.new.store) (g.S.TreeStore.tree c.enter_below.new.store) c.open.new.self c.enter_below.new.trace (g.met.S.TreeStore.there _ _ _ c.requires.named) (c.in_ok-was.ensures.ok at c.requires.named) entered in
+    let one_deeper : here (take (c.args.depth + 1) path) (g.S.TreeStore.tree c.enter_below.new.store) ≡ entered.below = child_here _ _ _ _ _ _ _ (g.met.S.TreeStore.there _ _ _ stays) fits.context w.down entered in
     let named = subst (λ (p : List Tagged). g.S.TreeStore.names c.enter_below.new.store c.in_ok-child.child p) (sym w.down) (c.in_ok-child.ensures.named at stays) in
     let links = none_then _ _ _ _ (c.in_ok-was.ensures.links at c.requires.named) (c.in_ok-child.ensures.links at stays) in
     let fit = subst (λ (x : Context). Fits x (drop (c.args.depth + 1) path) c.args.op.now.cursor.last c.args.op.now.mutation) (sym one_deeper) (fits.fits entered.below is) in
@@ -45,7 +45,7 @@ close-requires g t c =
     let at = take c.args.depth c.args.op.now.cursor.path in
     let added = c.in_ok-was.ensures.ok at c.requires.named in
     let told = c.in_ok-trace_added.ensures.ok c.index-path-depth.result c.args.op.now.id c.args.op.now.mutation (here at (g.S.TreeStore.tree c.args.store.now)) added.after added.added in
-    let entered = c.in_ok-child.ensures.ok at (c.in_ok-was.ensures.names_stay c.args.place at c.requires.named) in
+    let entered = c.in_ok-child.ensures.ok at (c.in_ok-was.ensures.names_stay _ _ c.requires.named) in
     omega (arith, c.depth-above.ensures, ap (λ (r : Rows). r.depth) {x = c.open.new.self} {y = one_deeper (pushed c.args.trace.now R.Descend)} c.in_ok-open.ensures.ok, entered.derives.depth, c.in_ok-operate.ensures.ok.derives.depth, told.depth)
 
 pub returns-clause-ok : goal.returns-clause-ok
@@ -55,13 +55,13 @@ returns-clause-ok g t c =
     let within : c.args.depth < length path = search rules in
     let w = way path c.as_slice-path.result.now c.args.depth c.index-path-depth.result c.as_slice-path.ensures.keys within c.index-path-depth.is in
     let context = (fits_below c.index-path-depth.result (here at (g.S.TreeStore.tree c.args.store.now)) (drop c.args.depth path) (drop (c.args.depth + 1) path) c.args.op.now.cursor.last c.args.op.now.mutation w.rest c.requires.fits).context in
-    let stays = c.in_ok-was.ensures.names_stay c.args.place at c.requires.named in
-    descended c.args.op.now c.index-path-depth.result at (take (c.args.depth + 1) path) (drop c.args.depth path) (drop (c.args.depth + 1) path) _ _ _ _ _ _ _ _ _ _ _ (g.met.S.TreeStore.there c.args.store.now c.args.place at c.requires.named) context w.down w.rest c.in_ok-open.ensures.ok (c.in_ok-was.ensures.ok at c.requires.named) (c.in_ok-child.ensures.ok at stays) c.in_ok-operate.ensures.ok c.in_ok-trace_added.ensures.ok (c.close.ensures ∙ ap (λ (n : ℕ). at_depth n c.trace_added.new.trace) c.depth-above.ensures)
+    let stays = c.in_ok-was.ensures.names_stay _ _ c.requires.named in
+    descended c.args.op.now c.index-path-depth.result at (take (c.args.depth + 1) path) (drop c.args.depth path) (drop (c.args.depth + 1) path) _ _ _ _ _ _ _ _ _ _ _ (g.met.S.TreeStore.there _ _ _ c.requires.named) context w.down w.rest c.in_ok-open.ensures.ok (c.in_ok-was.ensures.ok at c.requires.named) (c.in_ok-child.ensures.ok at stays) c.in_ok-operate.ensures.ok c.in_ok-trace_added.ensures.ok (c.close.ensures ∙ ap (λ (n : ℕ). at_depth n c.trace_added.new.trace) c.depth-above.ensures)
 
 pub returns-clause-links : goal.returns-clause-links
 returns-clause-links g t c =
     let at = take c.args.depth c.args.op.now.cursor.path in
-    only_after _ _ _ _ _ (none_then _ _ _ _ (c.in_ok-was.ensures.links at c.requires.named) (c.in_ok-child.ensures.links at (c.in_ok-was.ensures.names_stay c.args.place at c.requires.named))) c.in_ok-operate.ensures.links
+    only_after _ _ _ _ _ (none_then _ _ _ _ (c.in_ok-was.ensures.links at c.requires.named) (c.in_ok-child.ensures.links at (c.in_ok-was.ensures.names_stay _ _ c.requires.named))) c.in_ok-operate.ensures.links
 
 pub returns-clause-kept : goal.returns-clause-kept
 returns-clause-kept g t c =

@@ -10,4 +10,4 @@ returns-clause-ok g c at named =
 
 pub returns-clause-links : goal.returns-clause-links
 returns-clause-links g c at named =
-    none_cleared _ _ _ _ _ _ _ (g.met.S.TreeStore.there c.args.store.now c.args.place at named) (c.in_ok-clear_elem_at.ensures.ok at named)
+    none_cleared _ _ _ _ _ _ _ (g.met.S.TreeStore.there _ _ _ named) (c.in_ok-clear_elem_at.ensures.ok at named)

@@ -10,7 +10,7 @@ returns-clause-ok g c at named =
 
 pub returns-clause-links : goal.returns-clause-links
 returns-clause-links g c at named =
-    on_ok _ (λ e. none_presence at c.args.key.now _ _ _ (g.met.S.TreeStore.there c.args.store.now c.args.place at named) (c.in_ok-was.ensures.ok at named)) c.trace_added.ensures.ok
+    on_ok _ (λ e. none_presence at c.args.key.now _ _ _ (g.met.S.TreeStore.there _ _ _ named) (c.in_ok-was.ensures.ok at named)) c.trace_added.ensures.ok
 
 pub returns-clause-kept : goal.returns-clause-kept
 returns-clause-kept g c =

@@ -13,7 +13,7 @@ use Rattle.jc_rules.proofs.BoolLemmas.{none_of}
 pub returns-in-Some-clause-ok : goal.returns-in-Some-clause-ok
 returns-in-Some-clause-ok g c at named =
     let some = some_content c.args.key.now (here at (g.S.TreeStore.tree c.args.store.now)) c.requires.context in
-    entered_there _ _ _ _ _ _ (g.met.S.TreeStore.there c.args.store.now c.args.place at named) c.requires.context (sym (c.in-Some.ensures.some at named ∙ some)) c.in_ok-push.ensures.ok refl
+    entered_there _ _ _ _ _ _ (g.met.S.TreeStore.there _ _ _ named) c.requires.context (sym (c.in-Some.ensures.some at named ∙ some)) c.in_ok-push.ensures.ok refl
 
 pub unreachable-requires : goal.unreachable-requires
 unreachable-requires g c =
@@ -22,9 +22,9 @@ unreachable-requires g c =
     let key = c.args.key.now in
     let old = g.S.TreeStore.tree c.args.store.now in
     let new = g.S.TreeStore.tree c.make_child_at.new.self in
-    let there = g.met.S.TreeStore.there c.args.store.now c.args.place at named in
+    let there = g.met.S.TreeStore.there _ _ _ named in
     let here_now : here at new ≡ with_content key (new_content key) (here at old) = here_changed at _ old new there (c.in_ok-make_child_at.ensures.ok at named) in
-    let no : false ≡ true = c.in-None.ensures.some at (c.in_ok-make_child_at.ensures.names_stay c.args.place at named) ∙ ap (λ d. is_some (node_in (content key d))) here_now ∙ child_there key (here at old) c.requires.context in
+    let no : false ≡ true = c.in-None.ensures.some at (c.in_ok-make_child_at.ensures.names_stay _ _ named) ∙ ap (λ d. is_some (node_in (content key d))) here_now ∙ child_there key (here at old) c.requires.context in
     cc
 
 pub returns-clause-ok : goal.returns-clause-ok
@@ -35,7 +35,7 @@ returns-clause-ok g c at named =
 
 pub returns-clause-links : goal.returns-clause-links
 returns-clause-links g c at named =
-    none_child at c.args.key.now _ _ (g.met.S.TreeStore.there c.args.store.now c.args.place at named) (c.in_ok-make_child_at.ensures.ok at named)
+    none_child at c.args.key.now _ _ (g.met.S.TreeStore.there _ _ _ named) (c.in_ok-make_child_at.ensures.ok at named)
 
 pub returns-clause-kept : goal.returns-clause-kept
 returns-clause-kept g c =

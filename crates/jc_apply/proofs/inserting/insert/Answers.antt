@@ -14,26 +14,26 @@ close-requires g c =
 pub returns-in_err-set_next_at-2-clause-kept : goal.returns-in_err-set_next_at-2-clause-kept
 returns-in_err-set_next_at-2-clause-kept g c =
     let at = c.requires.linked.0 in
-    let assigned = c.in_ok-assign.ensures.names_stay c.args.place at c.requires.linked.1 in
+    let assigned = c.in_ok-assign.ensures.names_stay _ _ c.requires.linked.1 in
     then _ _ _ _ _ _ (rows_added _ _ _ _ refl c.in_ok-key.ensures.kept) (then _ _ _ _ _ _ (rule_opened _ _ _ _ R.Insert1 refl c.in_ok-open.ensures.ok) (then _ _ _ _ _ _ c.in_ok-assign.ensures.kept (then _ _ _ _ _ _ (tree_changed _ _ _ _ _ _ (c.in_ok-set_next_at.ensures.ok at assigned) refl) (nothing _ _ _ _ c.in_err-set_next_at-2.ensures.err refl))))
 
 pub returns-clause-ok : goal.returns-clause-ok
 returns-clause-ok g c at named =
-    let assigned = c.in_ok-assign.ensures.names_stay c.args.place at named in
-    let linked = c.in_ok-set_next_at.ensures.names_stay c.args.place at assigned in
-    inserted at c.args.op.now c.args.value.now _ _ _ _ _ _ _ _ _ _ _ _ (g.met.S.TreeStore.there c.args.store.now c.args.place at named) c.requires.inserts (c.in_ok-key.ensures.ok at named) c.in_ok-open.ensures.ok refl (c.in_ok-assign.ensures.ok at named) (c.in_ok-set_next_at.ensures.ok at assigned) (c.in_ok-set_next_at-2.ensures.ok at linked) (c.close.ensures ∙ ap (λ (n : ℕ). at_depth n c.assign.new.trace) c.depth-depth.ensures)
+    let assigned = c.in_ok-assign.ensures.names_stay _ _ named in
+    let linked = c.in_ok-set_next_at.ensures.names_stay _ _ assigned in
+    inserted at c.args.op.now c.args.value.now _ _ _ _ _ _ _ _ _ _ _ _ (g.met.S.TreeStore.there _ _ _ named) c.requires.inserts (c.in_ok-key.ensures.ok at named) c.in_ok-open.ensures.ok refl (c.in_ok-assign.ensures.ok at named) (c.in_ok-set_next_at.ensures.ok at assigned) (c.in_ok-set_next_at-2.ensures.ok at linked) (c.close.ensures ∙ ap (λ (n : ℕ). at_depth n c.assign.new.trace) c.depth-depth.ensures)
 
 pub returns-clause-links : goal.returns-clause-links
 returns-clause-links g c =
     let at = c.requires.linked.0 in
     let named = c.requires.linked.1 in
-    let assigned = c.in_ok-assign.ensures.names_stay c.args.place at named in
-    let linked = c.in_ok-set_next_at.ensures.names_stay c.args.place at assigned in
-    linked_only at c.args.op.now.id _ _ _ _ _ _ (g.met.S.TreeStore.there c.assign.new.store c.args.place at assigned) c.requires.chained c.requires.fresh (c.in_ok-key.ensures.ok at named).follows (c.in_ok-assign.ensures.links at named) (c.in_ok-set_next_at.ensures.ok at assigned) (c.in_ok-set_next_at-2.ensures.ok at linked)
+    let assigned = c.in_ok-assign.ensures.names_stay _ _ named in
+    let linked = c.in_ok-set_next_at.ensures.names_stay _ _ assigned in
+    linked_only at c.args.op.now.id _ _ _ _ _ _ (g.met.S.TreeStore.there _ _ _ assigned) c.requires.chained c.requires.fresh (c.in_ok-key.ensures.ok at named).follows (c.in_ok-assign.ensures.links at named) (c.in_ok-set_next_at.ensures.ok at assigned) (c.in_ok-set_next_at-2.ensures.ok at linked)
 
 pub returns-clause-kept : goal.returns-clause-kept
 returns-clause-kept g c =
     let at = c.requires.linked.0 in
-    let assigned = c.in_ok-assign.ensures.names_stay c.args.place at c.requires.linked.1 in
-    let linked = c.in_ok-set_next_at.ensures.names_stay c.args.place at assigned in
+    let assigned = c.in_ok-assign.ensures.names_stay _ _ c.requires.linked.1 in
+    let linked = c.in_ok-set_next_at.ensures.names_stay _ _ assigned in
     then _ _ _ _ _ _ (rows_added _ _ _ _ refl c.in_ok-key.ensures.kept) (then _ _ _ _ _ _ (rule_opened _ _ _ _ R.Insert1 refl c.in_ok-open.ensures.ok) (then _ _ _ _ _ _ c.in_ok-assign.ensures.kept (then _ _ _ _ _ _ (tree_changed _ _ _ _ _ _ (c.in_ok-set_next_at.ensures.ok at assigned) refl) (then _ _ _ _ _ _ (tree_changed _ _ _ _ _ _ (c.in_ok-set_next_at-2.ensures.ok at linked) refl) (depth_changed _ _ _ _ _ refl c.close.ensures)))))
