@@ -1,6 +1,5 @@
 -- About AppliesAlong: the rule of a path's first key adds the identifier and changes what is below.
-use Rattle.std.proofs.Common.{◌≡◌, ℕ, suc, ◌+◌, ◌<◌, List, [], ◌∷◌, ◌++◌, length, take, drop, get_or, Option, Some, None, Bool, refl, sym, ◌∙◌, ap, subst, add-one, drop-cons}
-use Rattle.std.proofs.Math.Seq.{take-suc}
+use Rattle.std.proofs.Common.{◌≡◌, List, [], ◌∷◌, ◌++◌, Option, Some, None, Bool, refl, sym, ◌∙◌, ap, subst}
 use Rattle.jc_rules.specs.declared.id.Id.{Id}
 use Rattle.jc_rules.specs.declared.key.Key.{Key}
 use Rattle.jc_rules.specs.declared.key.Tagged.{Tagged}
@@ -99,16 +98,3 @@ descended o k at down path rest was a b d e t p u1 u2 u3 w h hc de pe qe x y z t
       derives = three_premises R.Descend _ _ _ _ _ _ _ _ t u1 u2 u3 dx dy dz (k, rest, y.below, z2.after, x.after, refl, refl, refl);
       now = then_now at x.after last a b e x.now (above_now k at b d e z2.after p u1 pb hc y z2.now ∙ ap (λ c. with_node_at at (with_content k (Node z2.after) c) b.now) hb);
     })
-
--- the way down a path: to the child under its next key, and what is below
-pub record Way (path : List Tagged) (n : ℕ) (k : Tagged) : Type 0 where
-  pub down : take (n + 1) path ≡ take n path ++ k ∷ []
-  pub rest : drop n path ≡ k ∷ drop (n + 1) path
-
-pub way : (path slice : List Tagged) (n : ℕ) (k : Tagged) → slice ≡ path → n < length path → k ≡ get_or slice n k → Way path n k
-way path slice n k s l g =
-    let there : k ≡ get_or path n k = subst (λ (p : List Tagged). k ≡ get_or p n k) s g in
-    record {
-      down = ap (λ (m : ℕ). take m path) (add-one n) ∙ take-suc path n k l ∙ ap (λ (x : Tagged). take n path ++ x ∷ []) (sym there);
-      rest = drop-cons path n k l ∙ ap (λ (x : Tagged). x ∷ drop (suc n) path) (sym there) ∙ ap (λ (m : ℕ). k ∷ drop m path) (sym (add-one n));
-    }

@@ -7,10 +7,13 @@ pub returns-in-Delete-clause-ok : goal.returns-in-Delete-clause-ok
 returns-in-Delete-clause-ok g c at named =
     adds_none at c.args.key.now c.args.op.now.id c.args.op.now.mutation _ (g.met.S.TreeStore.there _ _ _ named) c.in-Delete.is
 
-pub returns-in_ok-was-in_default : goal.returns-in_ok-was-in_default
-returns-in_ok-was-in_default g c = record {
-  ok = λ at named. adds at c.args.key.now c.key.result.now c.args.op.now.id c.args.op.now.mutation _ _ _ c.key.ensures c.in_default.not-Delete (c.in_ok-was-in_default.ensures.was at named) (c.in_ok-was-in_default.ensures.ok at named);
-  links = λ at named. none_presence at c.key.result.now _ _ _ (g.met.S.TreeStore.there _ _ _ named) (c.in_ok-was-in_default.ensures.ok at named);
-  names_stay = c.in_ok-was-in_default.ensures.names_stay;
-  kept = later_changed c.requires.0 _ _ _ (c.in_ok-was-in_default.ensures.ok c.requires.0 c.requires.1);
-}
+pub returns-in_ok-was-in_default-clause-ok : goal.returns-in_ok-was-in_default-clause-ok
+returns-in_ok-was-in_default-clause-ok g c at named =
+    adds at c.args.key.now c.key.result.now c.args.op.now.id c.args.op.now.mutation _ _ _ c.key.ensures c.in_default.not-Delete (c.in_ok-was-in_default.ensures.was at named) (c.in_ok-was-in_default.ensures.ok at named)
+
+pub returns-in_ok-was-in_default-clause-links : goal.returns-in_ok-was-in_default-clause-links
+returns-in_ok-was-in_default-clause-links g c at named =
+    none_presence at c.key.result.now _ _ _ (g.met.S.TreeStore.there _ _ _ named) (c.in_ok-was-in_default.ensures.ok at named)
+
+pub returns-in_ok-was-in_default-clause-kept : goal.returns-in_ok-was-in_default-clause-kept
+returns-in_ok-was-in_default-clause-kept g c = later_changed _ _ _ _ (c.in_ok-was-in_default.ensures.ok c.requires.0 c.requires.1)

@@ -9,9 +9,6 @@ use Rattle.jc_apply.proofs.ApplyRulesLemmas.{assigned, adds_assigned}
 use Rattle.jc_apply.proofs.LinksLemmas.{none_cleared, none_register, none_then}
 use Rattle.jc_apply.proofs.assigning.assign_primitive.Goals as goal
 
-pub put_value_at-requires-clause-primitive : goal.put_value_at-requires-clause-primitive
-put_value_at-requires-clause-primitive g c = rw c.in_ok-copy-2.ensures c.requires.primitive
-
 pub close-requires : goal.close-requires
 close-requires g c =
     let at = c.requires.named.0 in

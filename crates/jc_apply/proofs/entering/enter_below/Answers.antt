@@ -40,9 +40,3 @@ returns-clause-links g c at named =
 pub returns-clause-kept : goal.returns-clause-kept
 returns-clause-kept g c =
     then _ _ _ _ _ _ (rule_added _ _ _ _ c.child_rule.result refl c.in_ok-push-2.ensures.ok) (tree_changed _ _ _ _ _ _ (c.in_ok-make_child_at.ensures.ok c.requires.named.0 c.requires.named.1) refl)
-
-pub make_child_at-requires : goal.make_child_at-requires
-make_child_at-requires g c =
-    let at = c.requires.named.0 in
-    let old = here at (g.S.TreeStore.tree c.args.store.now) in
-    (at, c.requires.named.1, none_of _ (sym (c.in_default.ensures.some at c.requires.named.1 ∙ some_content c.args.key.now old c.requires.context)))

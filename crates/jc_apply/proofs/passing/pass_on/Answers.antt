@@ -5,12 +5,6 @@ use Rattle.jc_tree.specs.Tree.{here}
 use Rattle.jc_apply.proofs.InsertLemmas.{passes_one, longer_over}
 use Rattle.jc_apply.proofs.passing.pass_on.Goals as goal
 
-pub returns-in_default-clause-none : goal.returns-in_default-clause-none
-returns-in_default-clause-none g c = λ e. (refl, c.greater_element.ensures.none c.in_default.is)
-
-pub returns-in_default-clause-longer : goal.returns-in_default-clause-longer
-returns-in_default-clause-longer g c = same_rows c.args.trace.now
-
 pub returns-in_ok-open_times-in-Some-stretch_above-clause-longer : goal.returns-in_ok-open_times-in-Some-stretch_above-clause-longer
 returns-in_ok-open_times-in-Some-stretch_above-clause-longer g c =
     longer_over c.in-Some-stretch_above.stretch.count c.args.trace.now c.open_times.new.self c.in_ok-open_times-in-Some-stretch_above.ensures.ok
