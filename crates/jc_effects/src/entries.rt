@@ -91,11 +91,7 @@ fn tags_in<S: TreeStore>(store: &S, place: Option<Place>, key: &Key) -> Tags
 }
 
 /// Whether the context has the tagged key.
-pub(crate) fn has_tag_in<S: TreeStore>(
-    store: &S,
-    place: Option<Place>,
-    tagged: &Tagged,
-) -> bool
+pub(crate) fn has_tag_in<S: TreeStore>(store: &S, place: Option<Place>, tagged: &Tagged) -> bool
     requires { (at : List AnyTagged) × IsNameOf (S.names store.now) (S.tree store.now) at place }
     ensures { (at : List AnyTagged) → IsNameOf (S.names store.now) (S.tree store.now) at place
         → result ≡ has_tag tagged.now (seen at (S.tree store.now).now) }
