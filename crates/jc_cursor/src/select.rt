@@ -1,15 +1,13 @@
 //! The selectors of expressions: what each selects from the cursor before it. The trace is left at the
 //! depth of the last rule's premises.
 
-ghost use Rattle.std.specs.Prelude.{◌≡◌, ◌≢◌, ◌↔◌, ◌<◌, ◌≤◌, [], ◌∷◌, ◌++◌, List, Some, IsTrue, IfOk, IfErr, IfSome, OnOk, length, filter_map, is_some};
+ghost use Rattle.std.specs.Prelude.{◌≡◌, ◌≢◌, ◌↔◌, ◌<◌, ◌≤◌, [], ◌∷◌, ◌++◌, List, Some, IsTrue, IfOk, IfErr, IfSome, OnOk, length, filter_map};
 ghost use Rattle.std.specs.List.{AllByRecursion};
-ghost use Rattle.jc_rules.specs.declared.id.Id.{Id as AnyId};
 ghost use Rattle.jc_rules.specs.declared.key.Key.TheVariants.{Head, Name as ToName};
 ghost use Rattle.jc_rules.specs.declared.key.Tagged.{Tagged as AnyTagged};
-ghost use Rattle.jc_rules.specs.declared.key.Tagged.TheVariants.{MapT};
 ghost use Rattle.jc_rules.specs.declared.limits.TheConstants.{MAX_PATH};
 ghost use Rattle.jc_rules.specs.declared.refusal.Refusal.TheVariants as F;
-ghost use Rattle.jc_rules.specs.Context.{Context as AnyContext, content, presence as presence_set};
+ghost use Rattle.jc_rules.specs.Context.{Context as AnyContext, presence as presence_set};
 ghost use Rattle.jc_rules.specs.Derivation.{SelectIndex, SelectKeys, SelectValues, ToCursor, ToNames, ToPairs};
 ghost use Rattle.jc_rules.specs.Derives.{Derives};
 ghost use Rattle.jc_rules.specs.Refused.{Refused, because};

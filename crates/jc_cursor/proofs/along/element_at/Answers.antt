@@ -1,12 +1,8 @@
-use Rattle.std.proofs.Common.{refl}
 use Rattle.std.proofs.lemmas.Result.{err_from_is_err_and}
 use Rattle.jc_tree.specs.Tree.{here}
 use Rattle.jc_tree.proofs.ChainedBelowLemmas.{list_here}
-use Rattle.jc_cursor.proofs.ElementsLemmas.{along_begins, along_goes_on, nearer_on, past_refused, along_ends}
+use Rattle.jc_cursor.proofs.ElementsLemmas.{along_goes_on, nearer_on, past_refused, along_ends}
 use Rattle.jc_cursor.proofs.along.element_at.Goals as goal
-
-pub loop-walk-init : goal.loop-walk-init
-loop-walk-init g c at named = along_begins _ _ _ _ _ refl refl
 
 pub returns-in_err-walk-clause-refused : goal.returns-in_err-walk-clause-refused
 returns-in_err-walk-clause-refused g c at named =

@@ -5,9 +5,6 @@ pub returns-in_err-place-clause-refused : goal.returns-in_err-place-clause-refus
 returns-in_err-place-clause-refused g c =
     handed_up _ _ _ _ c.from_residual.ensures.1 (λ why r. index_on_way _ c.args.path.now c.args.index why r) c.in_err-place.ensures.refused
 
-pub element_at-requires-clause-named : goal.element_at-requires-clause-named
-element_at-requires-clause-named g c = (c.args.path.now, c.in_ok-place.ensures.named)
-
 pub returns-clause-ok : goal.returns-clause-ok
 returns-clause-ok g c =
     given_on_ok _ _ c.element_at.result (λ k x. index_down _ c.args.path.now c.args.index k c.args.trace.now c.go_down.new.trace c.element_at.new.trace c.in_ok-place.ensures.leads x) (c.element_at.ensures.ok c.args.path.now c.in_ok-place.ensures.named)

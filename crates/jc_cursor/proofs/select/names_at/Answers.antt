@@ -3,9 +3,6 @@ use Rattle.jc_tree.specs.Tree.{here}
 use Rattle.jc_cursor.proofs.MapNamesLemmas.{named_on, named_all}
 use Rattle.jc_cursor.proofs.select.names_at.Goals as goal
 
-pub loop-lent-init : goal.loop-lent-init
-loop-lent-init g c at named = c.in_ok-names.ensures.items
-
 pub loop-lent-preserved : goal.loop-lent-preserved
 loop-lent-preserved g c at named =
     let d = here at (g.S.TreeStore.tree c.args.store.now) in

@@ -17,11 +17,6 @@ returns-in_default-clause-refused g c =
     let child = content (MapT c.args.cursor.now.last) (here at (g.S.TreeStore.tree c.args.store.now)) in
     keys_no_map _ c.args.cursor.now at c.as_slice-at.ensures.keys c.in_ok-place.ensures.refuses (none_of child (sym (c.in_default.ensures.some at c.in_ok-place.ensures.named)))
 
-pub names_at-requires : goal.names_at-requires
-names_at-requires g c =
-    let at = c.as_slice-at.result.now in
-    (at ++ MapT c.args.cursor.now.last ∷ [], c.in-Some.ensures.named at c.in_ok-place.ensures.named)
-
 pub returns-clause-ok : goal.returns-clause-ok
 returns-clause-ok g c =
     let tree = g.S.TreeStore.tree c.args.store.now in
