@@ -21,7 +21,7 @@ use crate::own::{
     Candidates, NO_TAGS, OwnEffects, Tags, ids_without, link_changed, own_between, shown_between,
 };
 use jc_rules::{Id, Key, Mutation, Next, Op, Tagged, Value, compare_ids, compare_keys};
-use jc_tree::{ANYWHERE, Place, TreeStore};
+use jc_tree::{ANYWHERE, TreeStore};
 use std::alloc::{AllocError, Global};
 
 fn is_delete(mutation: &Mutation) -> bool
