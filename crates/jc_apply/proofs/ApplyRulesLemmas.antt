@@ -1,5 +1,5 @@
 -- About AppliesAlong: the rules at one context.
-use Rattle.std.proofs.Common.{◌≡◌, ◌≢◌, List, [], Option, Some, None, Result, Ok, Err, OnOk, OnErr, Bool, is_some, true, false, refl, sym, ◌∙◌, ap, subst}
+use Rattle.std.proofs.Common.{◌≡◌, ◌≢◌, List, [], Option, Some, None, Result, Ok, Err, OnOk, Bool, is_some, true, refl, sym, ◌∙◌, ap, subst}
 use Rattle.jc_rules.specs.declared.id.Id.{Id}
 use Rattle.jc_rules.specs.declared.key.Key.{Key}
 use Rattle.jc_rules.specs.declared.key.Tagged.{Tagged}
@@ -13,9 +13,9 @@ use Rattle.jc_rules.specs.declared.value.Value.{Value}
 use Rattle.jc_rules.specs.Order.{key_cmp, id_cmp}
 use Rattle.jc_rules.specs.Entries.{find, put}
 use Rattle.jc_rules.specs.Ids.{with_id}
-use Rattle.jc_rules.specs.Context.{Context, context, Content, Node, Values, Register, IsPrimitive, registers, values_of, content, with_content, new_content, presence, with_presence, key_of_tagged, empty, empty_list}
+use Rattle.jc_rules.specs.Context.{Context, context, Content, Node, Values, IsPrimitive, registers, content, with_content, new_content, presence, with_presence, key_of_tagged, empty, empty_list}
 use Rattle.jc_rules.specs.ContextsAt.{with_node_at, node_in}
-use Rattle.jc_rules.specs.Derivation.{Question, Presence, AddId, Child, Clear, ClearElem, Operate, ToIds, ToContent, ToContext, Cleared}
+use Rattle.jc_rules.specs.Derivation.{Presence, AddId, Child, Clear, ClearElem, Operate, ToIds, ToContent, ToContext, Cleared}
 use Rattle.jc_rules.specs.Derives.{Derives}
 use Rattle.jc_rules.specs.Trace.{Rows, pushed, one_deeper, at_depth}
 use Rattle.jc_rules.specs.Table.{Follows, moved}
@@ -25,43 +25,11 @@ use Rattle.jc_rules.proofs.EntriesLemmas.{found-put}
 use Rattle.jc_rules.proofs.OrderLemmas.{keys_total, exact_keys}
 use Rattle.jc_rules.proofs.DerivesLemmas.{by_axiom, one_premise, three_premises}
 use Rattle.jc_tree.specs.Tree.{Tree, HasPlace, here, or_no_entries, IsChanged}
-use Rattle.jc_tree.specs.CanGoBack.{TreeCanGoBack}
-use Rattle.jc_tree.proofs.CanGoBackLemmas.{nothing, tree_changed}
 use Rattle.jc_clear.specs.Clears.{Clears}
 use Rattle.jc_tree.proofs.PlacesLemmas.{then_here, then_place, then_now}
 use Rattle.jc_tree.proofs.PathLemmas.{found_context}
 use Rattle.jc_apply.specs.Fits.{content_or_new, empty_of}
 use Rattle.jc_apply.specs.AppliesAlong.{AddsId, IsAdded, TellsAdded, LeadsTo, Enters, AssignsEmpty}
-
--- a register that is there or not, by the rule that says so
-pub register_there : (c : Context) (k : Key) → true ≡ is_some (find key_cmp k (registers c)) → Follows R.ChildGet (Child c (RegT k)) (ToContent (Values (or_no_entries (find key_cmp k (registers c))))) []
-register_there c k h = go (find key_cmp k (registers c)) refl h
-  where
-    go : (o : Option Register) → find key_cmp k (registers c) ≡ o → true ≡ is_some o → Follows R.ChildGet (Child c (RegT k)) (ToContent (Values (or_no_entries o))) []
-    go None e f = absurd (let no : ⊥ = cc in no)
-    go (Some r) e f = (Values r, ap values_of e, refl, refl)
-
-pub register_absent : (c : Context) (k : Key) → false ≡ is_some (find key_cmp k (registers c)) → Follows R.ChildReg (Child c (RegT k)) (ToContent (Values (or_no_entries (find key_cmp k (registers c))))) []
-register_absent c k h = go (find key_cmp k (registers c)) refl h
-  where
-    go : (o : Option Register) → find key_cmp k (registers c) ≡ o → false ≡ is_some o → Follows R.ChildReg (Child c (RegT k)) (ToContent (Values (or_no_entries o))) []
-    go None e f = (ap values_of e, refl, refl)
-    go (Some r) e f = absurd (let no : ⊥ = cc in no)
-
--- a set that is there or not, by the rule that says so
-pub set_there : (c : Context) (k : Key) → true ≡ is_some (presence k c) → Follows R.Presence1 (Presence c k) (ToIds (or_no_entries (presence k c))) []
-set_there c k h = go (presence k c) refl h
-  where
-    go : (o : Option (List Id)) → presence k c ≡ o → true ≡ is_some o → Follows R.Presence1 (Presence c k) (ToIds (or_no_entries o)) []
-    go None e f = absurd (let no : ⊥ = cc in no)
-    go (Some s) e f = (s, e, refl, refl)
-
-pub set_absent : (c : Context) (k : Key) → false ≡ is_some (presence k c) → Follows R.Presence2 (Presence c k) (ToIds (or_no_entries (presence k c))) []
-set_absent c k h = go (presence k c) refl h
-  where
-    go : (o : Option (List Id)) → presence k c ≡ o → false ≡ is_some o → Follows R.Presence2 (Presence c k) (ToIds (or_no_entries o)) []
-    go None e f = (e, refl, refl)
-    go (Some s) e f = absurd (let no : ⊥ = cc in no)
 
 -- the rules that tell of an identifier that was added, or wasn't
 pub told_some : (was : Bool) (given : Option Bool) (rule : Rule) (t o u w : Rows) → given ≡ Some was → o ≡ one_deeper (pushed t R.AddId1) → ((c : Context) (k : Key) → was ≡ is_some (presence k c) → Follows rule (Presence c k) (ToIds (or_no_entries (presence k c))) []) → u ≡ pushed o rule → w ≡ at_depth t.depth u → TellsAdded given t w
@@ -180,18 +148,6 @@ added r at key i was a b t u has z =
     on_ok r (λ tells k m ke ne.
     let x = adds at k key i m was a b (sym ke) ne has z in
     record { after = x.after; derives = tells k i m (here at a) x.after x.added; now = x.now })
-
--- a call that changes the tree or refuses
-pub tree_or_refused : {T E : Type 0} (r : Result T E) (at : List Tagged) (y : Context) (a b : Tree) (t u : Rows) → OnOk r (IsChanged at y a b) → OnErr r (b ≡ a) → u ≡ t → TreeCanGoBack a b t u
-tree_or_refused (Ok x) at y a b t u h f e = tree_changed a b t u at y h e
-tree_or_refused (Err x) at y a b t u h f e = nothing a b t u f e
-
--- a place stays where something was done
-pub after_clear : (q : Context → Question) (at : List Tagged) (a b : Tree) (ids : List Id) (t u : Rows) → HasPlace at a → Clears q at a b ids t u → HasPlace at b
-after_clear q at a b ids t u p x = then_place at x.after a b p x.now
-
-pub after_lead : (q : Context → Question) (at : List Tagged) (a b : Tree) (t u : Rows) → HasPlace at a → LeadsTo q at a b t u → HasPlace at b
-after_lead q at a b t u p x = then_place at x.after a b p x.now
 
 -- what is made under a map's or a list's tagged key is a context
 pub child_there : (t : Tagged) (c : Context) → HasContext t → is_some (node_in (content t (with_content t (new_content t) c))) ≡ true

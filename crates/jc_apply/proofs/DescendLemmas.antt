@@ -1,6 +1,5 @@
 -- About AppliesAlong: the rule of a path's first key adds the identifier and changes what is below.
-use Rattle.std.proofs.Common.{◌≡◌, ℕ, suc, ◌+◌, ◌<◌, List, [], ◌∷◌, ◌++◌, length, take, drop, get_or, Option, Some, None, Bool, refl, sym, ◌∙◌, ap, subst, add-one, drop-cons}
-use Rattle.std.proofs.Math.Seq.{take-suc}
+use Rattle.std.proofs.Common.{◌≡◌, List, [], ◌∷◌, ◌++◌, Option, Some, None, Bool, refl, sym, ◌∙◌, ap, subst}
 use Rattle.jc_rules.specs.declared.id.Id.{Id}
 use Rattle.jc_rules.specs.declared.key.Key.{Key}
 use Rattle.jc_rules.specs.declared.key.Tagged.{Tagged}
@@ -21,7 +20,7 @@ use Rattle.jc_rules.proofs.EntriesLemmas.{found-put}
 use Rattle.jc_rules.proofs.ContextsAtLemmas.{listed_children, with-with, with_node-twice, node-below, with_node-below}
 use Rattle.jc_rules.proofs.DerivesLemmas.{three_premises}
 use Rattle.jc_tree.specs.Tree.{Tree, HasPlace, here}
-use Rattle.jc_tree.proofs.PlacesLemmas.{then_node, then_here, then_place, then_now, some_place}
+use Rattle.jc_tree.proofs.PlacesLemmas.{then_node, then_here, then_place, then_now}
 use Rattle.jc_apply.specs.Fits.{content_or_new, child_context}
 use Rattle.jc_apply.specs.AppliesAlong.{AddsId, IsAdded, TellsAdded, LeadsTo, Enters}
 
@@ -38,10 +37,7 @@ content_added k i m (Some was) c d h = ap (content k) h.2 ∙ content_presence k
 content_here : (k : Tagged) (i : Id) (m : Mutation) (was : Option Bool) (at : List Tagged) (a b : Tree) → HasPlace at a → AddsId k i m was at a b → content k (here at b) ≡ content k (here at a)
 content_here k i m was at a b h x = ap (content k) (then_here at x.after a b h x.now) ∙ content_added k i m was (here at a) x.after x.added
 
--- the place is still there, and the same child under the key
-pub place_added : (k : Tagged) (i : Id) (m : Mutation) (was : Option Bool) (at : List Tagged) (a b : Tree) → HasPlace at a → AddsId k i m was at a b → HasPlace at b
-place_added k i m was at a b h x = then_place at x.after a b h x.now
-
+-- the same child is under the key
 pub child_added : (k : Tagged) (i : Id) (m : Mutation) (was : Option Bool) (at : List Tagged) (a b d : Tree) (t u : Rows) → HasPlace at a → AddsId k i m was at a b → (x : Enters k at b d t u) → child_context k (here at a) ≡ Some x.below
 child_added k i m was at a b d t u h y x =
     ap (λ (o : Option Content). node_in (Some (content_or_new k o))) (sym (content_here k i m was at a b h y)) ∙ x.is
@@ -68,13 +64,10 @@ content_new (MapT k) d (context m l r p n) h = rw (listed_children, found-put ke
 content_new (ListT k) d (context m l r p n) h = rw (listed_children, found-put keys_total exact_keys) refl
 content_new (RegT k) d c h = absurd h
 
--- the child's place
+-- the child's context
 child_node : (k : Tagged) (at : List Tagged) (a b : Tree) (t u : Rows) → HasPlace at a → HasContext k → (x : Enters k at a b t u) → node_at (at ++ k ∷ []) b.now ≡ Some x.below
 child_node k at a b t u p h x =
     node-below at k (with_content k (Node x.below) (here at a)) x.below b.now (then_node at _ a b p x.now) (content_new k x.below (here at a) h)
-
-pub child_place : (k : Tagged) (at down : List Tagged) (a b : Tree) (t u : Rows) → HasPlace at a → HasContext k → down ≡ at ++ k ∷ [] → Enters k at a b t u → HasPlace down b
-child_place k at down a b t u p h e x = rw e (some_place (at ++ k ∷ []) b.now x.below (child_node k at a b t u p h x))
 
 pub child_here : (k : Tagged) (at down : List Tagged) (a b : Tree) (t u : Rows) → HasPlace at a → HasContext k → down ≡ at ++ k ∷ [] → (x : Enters k at a b t u) → here down b ≡ x.below
 child_here k at down a b t u p h e x = rw (e, child_node k at a b t u p h x) refl
@@ -105,18 +98,3 @@ descended o k at down path rest was a b d e t p u1 u2 u3 w h hc de pe qe x y z t
       derives = three_premises R.Descend _ _ _ _ _ _ _ _ t u1 u2 u3 dx dy dz (k, rest, y.below, z2.after, x.after, refl, refl, refl);
       now = then_now at x.after last a b e x.now (above_now k at b d e z2.after p u1 pb hc y z2.now ∙ ap (λ c. with_node_at at (with_content k (Node z2.after) c) b.now) hb);
     })
-
--- a place on the way down a path: the context there, its key, and what is below
-pub record Way (path slice : List Tagged) (n : ℕ) (k : Tagged) : Type 0 where
-  pub at : take n slice ≡ take n path
-  pub down : take (n + 1) path ≡ take n slice ++ k ∷ []
-  pub rest : drop n path ≡ k ∷ drop (n + 1) path
-
-pub way : (path slice : List Tagged) (n : ℕ) (k : Tagged) → slice ≡ path → n < length path → k ≡ get_or slice n k → Way path slice n k
-way path slice n k s l g =
-    let there : k ≡ get_or path n k = subst (λ (p : List Tagged). k ≡ get_or p n k) s g in
-    record {
-      at = ap (λ (p : List Tagged). take n p) s;
-      down = ap (λ (m : ℕ). take m path) (add-one n) ∙ take-suc path n k l ∙ ap (λ (x : Tagged). take n path ++ x ∷ []) (sym there) ∙ ap (λ (p : List Tagged). take n p ++ k ∷ []) (sym s);
-      rest = drop-cons path n k l ∙ ap (λ (x : Tagged). x ∷ drop (suc n) path) (sym there) ∙ ap (λ (m : ℕ). k ∷ drop m path) (sym (add-one n));
-    }

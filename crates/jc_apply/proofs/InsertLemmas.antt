@@ -58,11 +58,6 @@ first_pass o c k n t h e f =
           record { derivation = y.derivation; holds = y.holds; concludes = y.concludes; rows = y.rows; depth = refl };
     }
 
--- the element that follows is linked
-pub passes_on : (o : Op) (c : Context) (k : Key) (n : Next) (i : Id) (t u : Rows) → Passing o c k n t u → n ≡ To i → next (Elem i) c ≢ None
-passes_on o c k n i t u w ne =
-    leads_next c (Elem i) (leads_on c k (To i) w.chain (w.follows ∙ ap (λ (y : Next). Some y) ne)).0
-
 -- one element further
 pub next_pass : (o : Op) (v : Value) (c : Context) (k j : Key) (n x : Next) (i : Id) (t u p : Rows) → o.mutation ≡ Insert v → Passing o c k n t u → n ≡ To i → id_cmp o.id i ≡ Less → j ≡ Elem i → next j c ≡ Some x → p ≡ one_deeper (pushed u R.Insert2) → Passing o c j x t p × (steps (Some j) (length (links c)) c < steps (Some k) (length (links c)) c)
 next_pass o v c k j n x i t u p is w ne less je f pe =
@@ -164,8 +159,8 @@ inserted at o v k j n a b d e t u p w z h is pass pe je x1 y1 y2 ze =
     })
 
 -- the new element alone got linked
-pub linked_only : (at : List Tagged) (i : Id) (k : Key) (n : Next) (a b d e : Tree) → HasPlace at a → HasPlace at b → IsChained a.now → IsUnlinked i a.now → next k (here at a) ≡ Some n → LinksNone at a b → IsChanged at (with_next k (To i) (here at b)) b d → IsChanged at (with_next (Elem i) n (here at d)) d e → LinksOnly i a e
-linked_only at i k n a b d e pa pb h fresh follows none y z =
+pub linked_only : (at : List Tagged) (i : Id) (k : Key) (n : Next) (a b d e : Tree) → HasPlace at b → IsChained a.now → IsUnlinked i a.now → next k (here at a) ≡ Some n → LinksNone at a b → IsChanged at (with_next k (To i) (here at b)) b d → IsChanged at (with_next (Elem i) n (here at d)) d e → LinksOnly i a e
+linked_only at i k n a b d e pb h fresh follows none y z =
     let after : next k (here at b) ≡ Some n = ap (find key_cmp k) none.same ∙ follows in
     let absent : next (Elem i) (here at b) ≡ None = no_next i (here at b) (unlinked_here i at b pb (none.unlinked i fresh)) in
     record {

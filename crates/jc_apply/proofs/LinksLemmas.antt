@@ -5,7 +5,6 @@ use Rattle.jc_rules.specs.declared.key.Key.{Key}
 use Rattle.jc_rules.specs.declared.key.Tagged.{Tagged}
 use Rattle.jc_rules.specs.declared.key.Tagged.TheVariants.{MapT, ListT, RegT}
 use Rattle.jc_rules.specs.Context.{Context, context, Values, Register, links, with_content, new_content, with_presence}
-use Rattle.jc_rules.specs.WellFormed.{IsChained}
 use Rattle.jc_rules.specs.Derivation.{Question}
 use Rattle.jc_rules.specs.Trace.{Rows}
 use Rattle.jc_tree.specs.Tree.{Tree, HasPlace, here, IsChanged}
@@ -64,9 +63,6 @@ none_cleared q at a b ids t u p x =
       chained = λ h. still_chained at x.after a b p x.now x.same h;
       unlinked = λ i h. unlinked_now i at x.after a b x.now (unlinked-same i (here at a) x.after x.same (unlinked_here i at a p h)) h;
     }
-
-pub only_none : (i : Id) (at : List Tagged) (a b : Tree) → IsChained a.now → LinksNone at a b → LinksOnly i a b
-only_none i at a b h x = record { chained = x.chained h; unlinked = λ j ne. x.unlinked j }
 
 -- links were set after a call that sets none
 pub only_after : (i : Id) (at : List Tagged) (a b d : Tree) → LinksNone at a b → LinksOnly i b d → LinksOnly i a d

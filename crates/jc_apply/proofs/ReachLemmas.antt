@@ -144,7 +144,7 @@ module _ (c : Context) (ps : List Tagged) (t : Tagged) (h : HasContext t) where
 
 -- one key further down a path
 
-further : (path : List Tagged) (n : ℕ) (t : Tagged) → n < length path → t ≡ get_or path n t → take (n + 1) path ≡ take n path ++ t ∷ []
+pub further : (path : List Tagged) (n : ℕ) (t : Tagged) → n < length path → t ≡ get_or path n t → take (n + 1) path ≡ take n path ++ t ∷ []
 further path n t within is = ap (λ (i : ℕ). take i path) (add-one n) ∙ take-suc path n t within ∙ ap (λ (x : Tagged). take n path ++ x ∷ []) (sym is)
 
 last_key : (path : List Tagged) (n : ℕ) (t : Tagged) → n < length path → t ≡ get_or path n t → slice_get path (n + 1 - 1) ≡ Some t

@@ -1,7 +1,8 @@
 //! Applying an operation to a document: replicas do it with operations that they make or receive.
 
-ghost use Rattle.std.specs.Prelude.{◌≡◌, ◌≢◌, ◌≤◌, ◌↔◌, [], List, Some, IsErrOf, IfOk, OnOk, OnErr, length, take, drop};
+ghost use Rattle.std.specs.Prelude.{◌≡◌, ◌≢◌, ◌≤◌, ◌↔◌, List, [], Some, IsErrOf, IfOk, OnOk, OnErr, length, take, drop};
 ghost use Rattle.jc_rules.specs.declared.id.Id.{Id as AnyId};
+ghost use Rattle.jc_rules.specs.declared.key.Tagged.{Tagged as AnyTagged};
 ghost use Rattle.jc_rules.specs.declared.operation.Op.{Op as AnyOp};
 ghost use Rattle.jc_rules.specs.declared.refusal.Refusal.TheVariants.{NotInList as PlaceNotInList};
 ghost use Rattle.jc_rules.specs.Derivation.{Operate, ToContext};
@@ -11,7 +12,7 @@ ghost use Rattle.jc_rules.specs.WellFormed.{IsChained};
 ghost use Rattle.jc_rules.specs.Representation.{Represents};
 ghost use Rattle.jc_rules.specs.Table.{moved, op_of};
 ghost use Rattle.jc_rules.specs.History.{IsLater};
-ghost use Rattle.jc_tree.specs.Tree.{HasPlace, NamesStay, here};
+ghost use Rattle.jc_tree.specs.Tree.{NamesStay, here};
 ghost use Rattle.jc_tree.specs.CanGoBack.{TreeCanGoBack};
 ghost use Rattle.jc_vectors.specs.KnownIds.{KnowsOnly};
 ghost use Rattle.jc_vectors.specs.OperationIds.{ids_of_ops, with_deps};
@@ -24,7 +25,7 @@ use crate::fitting::fits;
 use crate::inserting::insert;
 use jc_clear::clear_elem_at;
 use jc_rules::{Mutation, Op, Rule, Tagged, Trace};
-use jc_tree::{Place, TreeStore};
+use jc_tree::{ANYWHERE, KeyAt, Place, TreeStore};
 use std::alloc::{AllocError, Global};
 
 /// Why an operation was refused.
@@ -36,77 +37,79 @@ pub enum ApplyFault {
     Memory,
 }
 
-/// Deletes what is under the operation's last key, in the context at the place whose name is `place`.
+/// Deletes what is under the operation's last key, in the context at the place.
 fn delete<S: TreeStore>(
     alloc: Global,
     store: &mut S,
     place: Place,
-    at: &[Tagged],
     op: &Op,
     trace: &mut Trace,
 ) -> Result<(), AllocError>
-    requires there { HasPlace at.now (S.tree store.old) }
-    requires named { S.names store.old place at.now }
+    requires named { (at : List AnyTagged) × S.names store.old place at }
     requires chained { IsChained (S.tree store.old).now }
     requires deletes { op.now.mutation ≡ Mutation.Delete }
-    ensures ok { OnOk result (LeadsTo (λ c. Operate c (moved op.now [] op.now.cursor.last op.now.mutation))
-        at.now (S.tree store.old) (S.tree store.new) trace.old trace.new) }
-    ensures links { OnOk result (LinksNone at.now (S.tree store.old) (S.tree store.new)) }
+    ensures ok { (at : List AnyTagged) → S.names store.old place at
+        → OnOk result (LeadsTo (λ c. Operate c (moved op.now [] op.now.cursor.last op.now.mutation))
+        at (S.tree store.old) (S.tree store.new) trace.old trace.new) }
+    ensures links { (at : List AnyTagged) → S.names store.old place at
+        → OnOk result (LinksNone at (S.tree store.old) (S.tree store.new)) }
     ensures names_stay { NamesStay (S.names store.old) (S.names store.new) }
     ensures kept { TreeCanGoBack (S.tree store.old) (S.tree store.new) trace.old trace.new }
 {
     let depth = trace.depth();
     trace.open(Rule::Delete)?;
-    clear_elem_at(alloc, store, &op.deps, place, at, &op.cursor.last, trace)?;
+    clear_elem_at(alloc, store, &op.deps, place, &op.cursor.last, trace)?;
     trace.close(depth);
     Ok(())
 }
 
-/// Applies the operation to the context that its whole path leads to. `place` is the store's name for
-/// that context.
+/// Applies the operation to the context at the place, to which its whole path leads.
 fn operate_here<S: TreeStore>(
     alloc: Global,
     store: &mut S,
     place: Place,
-    at: &[Tagged],
     op: &Op,
     trace: &mut Trace,
 ) -> Result<(), AllocError>
-    requires there { HasPlace at.now (S.tree store.old) }
-    requires named { S.names store.old place at.now }
     requires chained { IsChained (S.tree store.old).now }
     requires fresh { IsUnlinked op.now.id (S.tree store.old).now }
-    requires fits { Fits (here at.now (S.tree store.old)) [] op.now.cursor.last op.now.mutation }
-    ensures ok { OnOk result (LeadsTo (λ c. Operate c (moved op.now [] op.now.cursor.last op.now.mutation))
-        at.now (S.tree store.old) (S.tree store.new) trace.old trace.new) }
+    requires fits { (at : List AnyTagged) × S.names store.old place at
+        × Fits (here at (S.tree store.old)) [] op.now.cursor.last op.now.mutation }
+    ensures ok { (at : List AnyTagged) → S.names store.old place at
+        → OnOk result (LeadsTo (λ c. Operate c (moved op.now [] op.now.cursor.last op.now.mutation))
+        at (S.tree store.old) (S.tree store.new) trace.old trace.new) }
     ensures links { OnOk result (LinksOnly op.now.id (S.tree store.old) (S.tree store.new)) }
     ensures names_stay { NamesStay (S.names store.old) (S.names store.new) }
     ensures kept { TreeCanGoBack (S.tree store.old) (S.tree store.new) trace.old trace.new }
 {
     match &op.mutation {
         Mutation::Assign(value) => {
-            assign(alloc, store, place, at, op, &op.cursor.last, value, trace)
+            let key = KeyAt {
+                place,
+                key: &op.cursor.last,
+                hint: ANYWHERE,
+            };
+            assign(alloc, store, key, op, value, trace)
         }
-        Mutation::Insert(value) => insert(alloc, store, place, at, op, value, trace),
-        Mutation::Delete => delete(alloc, store, place, at, op, trace),
+        Mutation::Insert(value) => insert(alloc, store, place, op, value, trace),
+        Mutation::Delete => delete(alloc, store, place, op, trace),
     }
 }
 
-/// Adds the operation's identifier to the presence set of a key on its path, at the place with the
-/// given name, unless the operation deletes. Returns whether there was a set; `None` for a deletion.
+/// Adds the operation's identifier to the presence set of a key on its path, in the context at the
+/// place, unless the operation deletes. Returns whether there was a set; `None` for a deletion.
 fn add_op<S: TreeStore>(
     store: &mut S,
     place: Place,
-    at: &[Tagged],
     key: &Tagged,
     op: &Op,
 ) -> Result<Option<bool>, AllocError>
-    requires there { HasPlace at.now (S.tree store.old) }
-    requires named { S.names store.old place at.now }
-    ensures ok { IfOk result (λ was. AddsId key.now op.now.id op.now.mutation was
-        at.now (S.tree store.old) (S.tree store.new)) }
-    ensures named { OnOk result (S.names store.new place at.now) }
-    ensures links { OnOk result (LinksNone at.now (S.tree store.old) (S.tree store.new)) }
+    requires { (at : List AnyTagged) × S.names store.old place at }
+    ensures ok { (at : List AnyTagged) → S.names store.old place at
+        → IfOk result (λ was. AddsId key.now op.now.id op.now.mutation was
+        at (S.tree store.old) (S.tree store.new)) }
+    ensures links { (at : List AnyTagged) → S.names store.old place at
+        → OnOk result (LinksNone at (S.tree store.old) (S.tree store.new)) }
     ensures names_stay { NamesStay (S.names store.old) (S.names store.new) }
     ensures kept { IsLater (S.tree store.old) (S.tree store.new) }
 {
@@ -119,8 +122,7 @@ fn add_op<S: TreeStore>(
     }
 }
 
-/// Applies the operation to the context that the first `depth` keys of its path lead to. `place` is
-/// the store's name for that context.
+/// Applies the operation to the context at the place, to which the first `depth` keys of its path lead.
 fn operate<S: TreeStore>(
     alloc: Global,
     store: &mut S,
@@ -130,7 +132,6 @@ fn operate<S: TreeStore>(
     trace: &mut Trace,
 ) -> Result<(), AllocError>
     requires within { depth ≤ length op.now.cursor.path }
-    requires there { HasPlace (take depth op.now.cursor.path) (S.tree store.old) }
     requires named { S.names store.old place (take depth op.now.cursor.path) }
     requires chained { IsChained (S.tree store.old).now }
     requires fresh { IsUnlinked op.now.id (S.tree store.old).now }
@@ -145,15 +146,14 @@ fn operate<S: TreeStore>(
 {
     let path = op.cursor.path.as_slice();
     if depth == path.len() {
-        return operate_here(alloc, store, place, path, op, trace);
+        return operate_here(alloc, store, place, op, trace);
     }
-    let at = &path[..depth];
     let key = &path[depth];
     let above = trace.depth();
     trace.open(Rule::Descend)?;
-    // Added before the way down, by the name of this place: its rules come after.
-    let was = add_op(store, place, at, key, op)?;
-    let child = enter_below(store, place, at, key, trace)?;
+    // Added before the way down, at this place: its rules come after.
+    let was = add_op(store, place, key, op)?;
+    let child = enter_below(store, place, key, trace)?;
     operate(alloc, store, op, depth + 1, child, trace)?;
     trace_added(was, trace)?;
     trace.close(above);

@@ -1,8 +1,8 @@
 //! Assigning a value to a key, and adding identifiers to presence sets: steps of `apply_op`.
 
-ghost use Rattle.std.specs.Prelude.{◌≡◌, ◌≢◌, [], OnOk, is_some};
+ghost use Rattle.std.specs.Prelude.{◌≡◌, ◌≢◌, List, [], OnOk, is_some};
 ghost use Rattle.jc_rules.specs.declared.key.Key.{Key as AnyKey};
-ghost use Rattle.jc_rules.specs.declared.key.Tagged.{Tagged};
+ghost use Rattle.jc_rules.specs.declared.key.Tagged.{Tagged as AnyTagged};
 ghost use Rattle.jc_rules.specs.declared.key.Tagged.TheVariants.{RegT};
 ghost use Rattle.jc_rules.specs.declared.operation.Mutation.{Mutation as AnyMutation};
 ghost use Rattle.jc_rules.specs.declared.operation.Mutation.TheVariants.{Assign, Delete};
@@ -14,7 +14,7 @@ ghost use Rattle.jc_rules.specs.WellFormed.{IsChained};
 ghost use Rattle.jc_rules.specs.Table.{Follows, moved};
 ghost use Rattle.jc_rules.specs.Trace.{IsLonger};
 ghost use Rattle.jc_rules.specs.Paths.{HasContext};
-ghost use Rattle.jc_tree.specs.Tree.{HasPlace, NamesStay, here, or_no_entries};
+ghost use Rattle.jc_tree.specs.Tree.{NamesStay, or_no_entries};
 ghost use Rattle.jc_tree.specs.CanGoBack.{TreeCanGoBack};
 ghost use Rattle.jc_apply.specs.Fits.{empty_of};
 ghost use Rattle.jc_apply.specs.AppliesAlong.{LeadsTo, LinksNone, AssignsEmpty, TellsAdded};
@@ -22,7 +22,7 @@ ghost use Rattle.jc_apply.specs.AppliesAlong.{LeadsTo, LinksNone, AssignsEmpty, 
 use crate::entering::enter_below;
 use jc_clear::{clear_at, clear_elem_at};
 use jc_rules::{Id, Key, Op, Rule, Tagged, Trace, Value};
-use jc_tree::{Place, TreeStore};
+use jc_tree::{KeyAt, Place, TreeStore};
 use std::alloc::{AllocError, Global};
 
 /// The rule by which a key's presence set is found, or found absent.
@@ -61,22 +61,22 @@ pub fn trace_added(was: Option<bool>, trace: &mut Trace) -> Result<(), AllocErro
     Ok(())
 }
 
-/// Adds an identifier to the presence set of a key in the context at the place, whose name is `place`,
-/// for an operation that doesn't delete.
+/// Adds an identifier to the presence set of a key in the context at the place, for an operation that
+/// doesn't delete.
 fn add_id<S: TreeStore>(
     store: &mut S,
     place: Place,
-    at: &[Tagged],
     key: &Key,
     id: Id,
     trace: &mut Trace,
 ) -> Result<(), AllocError>
-    requires there { HasPlace at.now (S.tree store.old) }
-    requires named { S.names store.old place at.now }
-    ensures ok { OnOk result ((k : Tagged) → (m : AnyMutation) → key_of_tagged k ≡ key.now → m ≢ Delete
+    requires { (at : List AnyTagged) × S.names store.old place at }
+    ensures ok { (at : List AnyTagged) → S.names store.old place at
+        → OnOk result ((k : AnyTagged) → (m : AnyMutation) → key_of_tagged k ≡ key.now → m ≢ Delete
         → LeadsTo (λ c. AddId c k id m)
-        at.now (S.tree store.old) (S.tree store.new) trace.old trace.new) }
-    ensures links { OnOk result (LinksNone at.now (S.tree store.old) (S.tree store.new)) }
+        at (S.tree store.old) (S.tree store.new) trace.old trace.new) }
+    ensures links { (at : List AnyTagged) → S.names store.old place at
+        → OnOk result (LinksNone at (S.tree store.old) (S.tree store.new)) }
     ensures names_stay { NamesStay (S.names store.old) (S.names store.new) }
     ensures kept { TreeCanGoBack (S.tree store.old) (S.tree store.new) trace.old trace.new }
 {
@@ -84,34 +84,32 @@ fn add_id<S: TreeStore>(
     trace_added(Some(was), trace)
 }
 
-/// Assigns a primitive value to the register of a key, in the context at the place whose name is
-/// `place`.
+/// Assigns a primitive value to the register of a key.
 fn assign_primitive<S: TreeStore>(
     alloc: Global,
     store: &mut S,
-    place: Place,
-    at: &[Tagged],
+    key: KeyAt<'_>,
     op: &Op,
-    last: &Key,
     value: &Value,
     trace: &mut Trace,
 ) -> Result<(), AllocError>
-    requires there { HasPlace at.now (S.tree store.old) }
-    requires named { S.names store.old place at.now }
+    requires named { (at : List AnyTagged) × S.names store.old key.place at }
     requires chained { IsChained (S.tree store.old).now }
     requires primitive { IsPrimitive value.now }
-    ensures ok { OnOk result (LeadsTo (λ c. Operate c (moved op.now [] last.now (Assign value.now)))
-        at.now (S.tree store.old) (S.tree store.new) trace.old trace.new) }
-    ensures links { OnOk result (LinksNone at.now (S.tree store.old) (S.tree store.new)) }
+    ensures ok { (at : List AnyTagged) → S.names store.old key.entry.place at
+        → OnOk result (LeadsTo (λ c. Operate c (moved op.now [] key.entry.key.now (Assign value.now)))
+        at (S.tree store.old) (S.tree store.new) trace.old trace.new) }
+    ensures links { (at : List AnyTagged) → S.names store.old key.entry.place at
+        → OnOk result (LinksNone at (S.tree store.old) (S.tree store.new)) }
     ensures names_stay { NamesStay (S.names store.old) (S.names store.new) }
     ensures kept { TreeCanGoBack (S.tree store.old) (S.tree store.new) trace.old trace.new }
 {
     let depth = trace.depth();
     trace.open(Rule::Assign)?;
-    let register = Tagged::RegT(last.copy()?);
-    clear_at(alloc, store, &op.deps, place, at, &register, trace)?;
-    add_id(store, place, at, last, op.id, trace)?;
-    let was = store.put_value_at(place, last, op.id, value.copy()?)?;
+    let register = Tagged::RegT(key.key.copy()?);
+    clear_at(alloc, store, &op.deps, key.place, &register, trace)?;
+    add_id(store, key.place, key.key, op.id, trace)?;
+    let was = store.put_value_at(key.place, key.key, op.id, value.copy()?)?;
     trace.push(register_rule(was))?;
     trace.close(depth);
     Ok(())
@@ -129,66 +127,64 @@ fn empty_rule(key: &Tagged) -> Rule
     }
 }
 
-/// Assigns an empty map or an empty list to a key, in the context at the place whose name is `place`:
-/// what is under the key is cleared, and the map or the list is made where there is none.
+/// Assigns an empty map or an empty list to a key, in the context at the place: what is under the key is
+/// cleared, and the map or the list is made where there is none.
 fn assign_empty<S: TreeStore>(
     alloc: Global,
     store: &mut S,
     place: Place,
-    at: &[Tagged],
-    op: &Op,
     key: &Tagged,
+    op: &Op,
     trace: &mut Trace,
 ) -> Result<(), AllocError>
-    requires there { HasPlace at.now (S.tree store.old) }
-    requires named { S.names store.old place at.now }
+    requires named { (at : List AnyTagged) × S.names store.old place at }
     requires chained { IsChained (S.tree store.old).now }
     requires context { HasContext key.now }
-    ensures ok { OnOk result (LeadsTo
+    ensures ok { (at : List AnyTagged) → S.names store.old place at → OnOk result (LeadsTo
         (λ c. Operate c (moved op.now [] (key_of_tagged key.now) (Assign (empty_of key.now))))
-        at.now (S.tree store.old) (S.tree store.new) trace.old trace.new) }
-    ensures links { OnOk result (LinksNone at.now (S.tree store.old) (S.tree store.new)) }
+        at (S.tree store.old) (S.tree store.new) trace.old trace.new) }
+    ensures links { (at : List AnyTagged) → S.names store.old place at
+        → OnOk result (LinksNone at (S.tree store.old) (S.tree store.new)) }
     ensures names_stay { NamesStay (S.names store.old) (S.names store.new) }
     ensures kept { TreeCanGoBack (S.tree store.old) (S.tree store.new) trace.old trace.new }
 {
     let depth = trace.depth();
     trace.open(empty_rule(key))?;
-    clear_elem_at(alloc, store, &op.deps, place, at, key.key(), trace)?;
-    add_id(store, place, at, key.key(), op.id, trace)?;
-    enter_below(store, place, at, key, trace)?;
+    clear_elem_at(alloc, store, &op.deps, place, key.key(), trace)?;
+    add_id(store, place, key.key(), op.id, trace)?;
+    enter_below(store, place, key, trace)?;
     trace.close(depth);
     Ok(())
 }
 
-/// Assigns a value to a key, in the context at the place whose name is `place`.
+/// Assigns a value to a key.
 pub fn assign<S: TreeStore>(
     alloc: Global,
     store: &mut S,
-    place: Place,
-    at: &[Tagged],
+    key: KeyAt<'_>,
     op: &Op,
-    last: &Key,
     value: &Value,
     trace: &mut Trace,
 ) -> Result<(), AllocError>
-    requires there { HasPlace at.now (S.tree store.old) }
-    requires named { S.names store.old place at.now }
+    requires named { (at : List AnyTagged) × S.names store.old key.place at }
     requires chained { IsChained (S.tree store.old).now }
-    ensures ok { OnOk result (LeadsTo (λ c. Operate c (moved op.now [] last.now (Assign value.now)))
-        at.now (S.tree store.old) (S.tree store.new) trace.old trace.new) }
-    ensures links { OnOk result (LinksNone at.now (S.tree store.old) (S.tree store.new)) }
+    ensures ok { (at : List AnyTagged) → S.names store.old key.entry.place at
+        → OnOk result (LeadsTo (λ c. Operate c (moved op.now [] key.entry.key.now (Assign value.now)))
+        at (S.tree store.old) (S.tree store.new) trace.old trace.new) }
+    ensures links { (at : List AnyTagged) → S.names store.old key.entry.place at
+        → OnOk result (LinksNone at (S.tree store.old) (S.tree store.new)) }
     ensures names_stay { NamesStay (S.names store.old) (S.names store.new) }
     ensures kept { TreeCanGoBack (S.tree store.old) (S.tree store.new) trace.old trace.new }
 {
     match value {
         Value::EmptyMap => {
-            let key = Tagged::MapT(last.copy()?);
-            assign_empty(alloc, store, place, at, op, &key, trace)
+            let map = Tagged::MapT(key.key.copy()?);
+            assign_empty(alloc, store, key.place, &map, op, trace)
         }
         Value::EmptyList => {
-            let key = Tagged::ListT(last.copy()?);
-            assign_empty(alloc, store, place, at, op, &key, trace)
+            let list = Tagged::ListT(key.key.copy()?);
+            assign_empty(alloc, store, key.place, &list, op, trace)
         }
-        _ => assign_primitive(alloc, store, place, at, op, last, value, trace),
+        _ => assign_primitive(alloc, store, key, op, value, trace),
     }
 }

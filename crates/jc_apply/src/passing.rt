@@ -1,23 +1,24 @@
 //! The search for the place of an insert: past as many elements at once as the store tells of, if all have greater
 //! identifiers, else past one.
 
-ghost use Rattle.std.specs.Prelude.{◌≡◌, ◌≢◌, ◌↔◌, ◌<◌, ◌≤◌, IsTrue, None, Some, IfOk, IfSome, OnOk};
+ghost use Rattle.std.specs.Prelude.{◌≡◌, ◌≢◌, ◌↔◌, ◌<◌, ◌≤◌, List, IsTrue, None, Some, IfOk, IfSome};
 ghost use Rattle.std.specs.declared.cmp.Ordering.TheVariants.{Less};
 ghost use Rattle.jc_rules.specs.declared.id.Id.{Id as AnyId};
 ghost use Rattle.jc_rules.specs.declared.key.Key.TheVariants.{Elem};
 ghost use Rattle.jc_rules.specs.declared.key.Next.TheVariants.{Elem as To};
+ghost use Rattle.jc_rules.specs.declared.key.Tagged.{Tagged as AnyTagged};
 ghost use Rattle.jc_rules.specs.declared.operation.Mutation.TheVariants.{Insert};
 ghost use Rattle.jc_rules.specs.declared.value.Value.{Value as AnyValue};
 ghost use Rattle.jc_rules.specs.Order.{id_cmp};
 ghost use Rattle.jc_rules.specs.Context.{next as next_of};
 ghost use Rattle.jc_rules.specs.WellFormed.{IsChained};
 ghost use Rattle.jc_rules.specs.Trace.{IsLonger};
-ghost use Rattle.jc_tree.specs.Tree.{HasPlace, here};
+ghost use Rattle.jc_tree.specs.Tree.{here};
 ghost use Rattle.jc_apply.specs.Fits.{IsUnlinked};
 ghost use Rattle.jc_apply.specs.AppliesAlong.{Passes};
 ghost use Rattle.jc_apply.specs.Passing.{LeadsOverGreater, PassesOn};
 
-use jc_rules::{Id, Key, Next, Op, Rule, Tagged, Trace, compare_ids};
+use jc_rules::{Id, Key, Next, Op, Rule, Trace, compare_ids};
 use jc_tree::{ANYWHERE, Hint, Place, Stretch, TreeStore};
 use std::alloc::AllocError;
 
@@ -33,14 +34,13 @@ struct Search {
     next_hint: Hint,
 }
 
-/// The search at the key of the list at the place. `place` is the store's name for the place, `hint` is where to look
-/// first for the key.
-fn search_at<S: TreeStore>(store: &S, place: Place, at: &[Tagged], key: Key, hint: Hint) -> Search
-    requires there { HasPlace at.now (S.tree store.now) }
-    requires named { S.names store.now place at.now }
-    requires linked { next_of key (here at.now (S.tree store.now)) ≢ None }
+/// The search at the key of the list at the place. `hint` is where to look first for the key.
+fn search_at<S: TreeStore>(store: &S, place: Place, key: Key, hint: Hint) -> Search
+    requires { (at : List AnyTagged) × S.names store.now place at
+        × (next_of key (here at (S.tree store.now)) ≢ None) }
     ensures key { result.key ≡ key }
-    ensures next { next_of result.key (here at.now (S.tree store.now)) ≡ Some result.next }
+    ensures next { (at : List AnyTagged) → S.names store.now place at
+        → next_of result.key (here at (S.tree store.now)) ≡ Some result.next }
 {
     let step = store.step_by(place, &key, hint);
     let Some(next) = step.next else {
@@ -74,19 +74,12 @@ fn is_below(first: Id, second: Id) -> bool
 
 /// What the store tells of the elements behind the search's key, if their identifiers are all greater than the
 /// given one.
-fn stretch_above<S: TreeStore>(
-    store: &S,
-    place: Place,
-    at: &[Tagged],
-    search: &Search,
-    id: Id,
-) -> Option<Stretch>
-    requires there { HasPlace at.now (S.tree store.now) }
-    requires named { S.names store.now place at.now }
+fn stretch_above<S: TreeStore>(store: &S, place: Place, search: &Search, id: Id) -> Option<Stretch>
+    requires { (at : List AnyTagged) × S.names store.now place at }
     ensures some { IfSome result (λ s. 0 < s.count) }
     ensures most { IfSome result (λ s. s.count ≤ 64) }
-    ensures leads { IfSome result (λ s.
-        LeadsOverGreater (here at.now (S.tree store.now)) id search.now.key s.count (Elem s.last)) }
+    ensures leads { (at : List AnyTagged) → S.names store.now place at → IfSome result (λ s.
+        LeadsOverGreater (here at (S.tree store.now)) id search.now.key s.count (Elem s.last)) }
 {
     let stretch = store.stretch_by(place, &search.key, search.hint, MOST)?;
     if is_below(id, stretch.least) {
@@ -100,16 +93,15 @@ fn stretch_above<S: TreeStore>(
 fn pass_on<S: TreeStore>(
     store: &S,
     place: Place,
-    at: &[Tagged],
     search: &Search,
     id: Id,
     trace: &mut Trace,
 ) -> Result<Option<(Key, Hint)>, AllocError>
-    requires there { HasPlace at.now (S.tree store.now) }
-    requires named { S.names store.now place at.now }
-    requires follows { next_of search.now.key (here at.now (S.tree store.now)) ≡ Some search.now.next }
-    ensures some { IfOk result (λ o. IfSome o (λ p.
-        PassesOn (here at.now (S.tree store.now)) id search.now.key p.0 trace.old trace.new)) }
+    requires named { (at : List AnyTagged) × S.names store.now place at }
+    requires follows { (at : List AnyTagged) → S.names store.now place at
+        → next_of search.now.key (here at (S.tree store.now)) ≡ Some search.now.next }
+    ensures some { (at : List AnyTagged) → S.names store.now place at → IfOk result (λ o. IfSome o (λ p.
+        PassesOn (here at (S.tree store.now)) id search.now.key p.0 trace.old trace.new)) }
     ensures none { IfOk result (λ o. o ≡ None
         → (trace.new ≡ trace.old) × ((n : AnyId) → search.now.next ≡ To n → id_cmp id n ≢ Less)) }
     ensures longer { IsLonger trace.old trace.new }
@@ -117,7 +109,7 @@ fn pass_on<S: TreeStore>(
     let Some(element) = greater_element(search.next, id) else {
         return Ok(None);
     };
-    match stretch_above(store, place, at, search, id) {
+    match stretch_above(store, place, search, id) {
         Some(stretch) => {
             trace.open_times(Rule::Insert2, stretch.count as u32)?;
             Ok(Some((Key::Elem(stretch.last), stretch.hint)))
@@ -129,29 +121,28 @@ fn pass_on<S: TreeStore>(
     }
 }
 
-/// Goes from the operation's last key past the elements there whose identifier is greater than the
-/// operation's. `place` is the store's name for the list. Returns the key behind which the new element
-/// belongs, and what follows that key.
+/// Goes in the list at the place from the operation's last key past the elements there whose identifier is
+/// greater than the operation's. Returns the key behind which the new element belongs, and what follows
+/// that key.
 pub fn pass<S: TreeStore>(
     store: &S,
     place: Place,
-    at: &[Tagged],
     op: &Op,
     trace: &mut Trace,
 ) -> Result<(Key, Next), AllocError>
-    requires there { HasPlace at.now (S.tree store.now) }
-    requires named { S.names store.now place at.now }
     requires chained { IsChained (S.tree store.now).now }
     requires fresh { IsUnlinked op.now.id (S.tree store.now).now }
     requires inserts { (v : AnyValue) × (op.now.mutation ≡ Insert v) }
-    requires linked { next_of op.now.cursor.last (here at.now (S.tree store.now)) ≢ None }
-    ensures ok { IfOk result (λ p. Passes op.now (here at.now (S.tree store.now)) p.0 p.1 trace.old trace.new) }
+    requires linked { (at : List AnyTagged) × S.names store.now place at
+        × (next_of op.now.cursor.last (here at (S.tree store.now)) ≢ None) }
+    ensures ok { (at : List AnyTagged) → S.names store.now place at
+        → IfOk result (λ p. Passes op.now (here at (S.tree store.now)) p.0 p.1 trace.old trace.new) }
     ensures kept { IsLonger trace.old trace.new }
 {
     let key = op.cursor.last.copy()?;
-    let mut search = search_at(store, place, at, key, ANYWHERE);
-    while let Some((key, hint)) = pass_on(store, place, at, &search, op.id, trace)? {
-        search = search_at(store, place, at, key, hint);
+    let mut search = search_at(store, place, key, ANYWHERE);
+    while let Some((key, hint)) = pass_on(store, place, &search, op.id, trace)? {
+        search = search_at(store, place, key, hint);
     }
     let Search { key, next, .. } = search;
     Ok((key, next))

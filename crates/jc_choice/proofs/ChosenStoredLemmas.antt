@@ -116,7 +116,3 @@ chosen_of_kept N p replica phase run has =
     (λ n. chosen_by (length N) (has.number n) (has.kept n) phase (has.kept n).left)
     ∙ (kept_chosen N well p has.at has.there (length N) p phase has.at.left
     ∙ ap (chosen_in (length N) p phase) (sym has.there))
-
--- nothing is chosen where there is no replica
-pub none_of_missing : (N : List State) (p : ℕ) (phase : Phase) → slice_get N p ≡ None → choice N p phase ≡ None
-none_of_missing N p phase none = ap (chosen_in (length N) p phase) none

@@ -30,25 +30,23 @@ pub record Along (deps : List Id) (at : List Tagged) (a : Tree) (t : Rows) (b : 
 pub first_along : (deps : List Id) (at : List Tagged) (a : Tree) (t : Rows) (ids : List Id) → HasPlace at a → IsChainedList (here at a) → ids ≡ [] → Along deps at a t a (Some Head) ids t
 first_along deps at a t ids p h i = record { turn = first_turn _ at a t ids p i; leads = leads_whole (here at a) h }
 
-pub after_along : (deps : List Id) (at p : List Tagged) (a : Tree) (t : Rows) (b : Tree) (key : Option Key) (ids : List Id) (u : Rows) → HasPlace at a → p ≡ at → Along deps at a t b key ids u → After at p a b
-after_along deps at p a t b key ids u h e w = after_turns _ _ at p a t b ids u h e w.turn
+pub after_along : (deps : List Id) (at : List Tagged) (a : Tree) (t : Rows) (b : Tree) (key : Option Key) (ids : List Id) (u : Rows) → HasPlace at a → Along deps at a t b key ids u → After at a b
+after_along deps at a t b key ids u h w = after_turns _ _ at a t b ids u h w.turn
 
-next_was : (deps : List Id) (at p : List Tagged) (a : Tree) (t : Rows) (b : Tree) (key : Option Key) (ids : List Id) (u : Rows) (k : Key) → HasPlace at a → p ≡ at → Along deps at a t b key ids u → next k (here p b) ≡ next k (here at a)
-next_was deps at p a t b key ids u k h e w =
-    ap (find key_cmp k) (links-same (here p b) (here at a) (after_along deps at p a t b key ids u h e w).same)
+next_was : (deps : List Id) (at : List Tagged) (a : Tree) (t : Rows) (b : Tree) (key : Option Key) (ids : List Id) (u : Rows) (k : Key) → HasPlace at a → Along deps at a t b key ids u → next k (here at b) ≡ next k (here at a)
+next_was deps at a t b key ids u k h w =
+    ap (find key_cmp k) (links-same (here at b) (here at a) (after_along deps at a t b key ids u h w).same)
 
-pub along_finds : (deps : List Id) (at p : List Tagged) (a : Tree) (t : Rows) (b : Tree) (key : Option Key) (k : Key) (ids : List Id) (u : Rows) → HasPlace at a → p ≡ at → Along deps at a t b key ids u → key ≡ Some k → next k (here p b) ≢ None
-along_finds deps at p a t b key k ids u h e w f g =
+pub along_finds : (deps : List Id) (at : List Tagged) (a : Tree) (t : Rows) (b : Tree) (key : Option Key) (k : Key) (ids : List Id) (u : Rows) → HasPlace at a → Along deps at a t b key ids u → key ≡ Some k → next k (here at b) ≢ None
+along_finds deps at a t b key k ids u h w f g =
     let l : Leads (here at a) (Some k) = subst (λ (y : Option Key). Leads (here at a) y) f w.leads in
-    leads_next (here at a) k l (sym (next_was deps at p a t b key ids u k h e w) ∙ g)
+    leads_next (here at a) k l (sym (next_was deps at a t b key ids u k h w) ∙ g)
 
 -- one element further
-pub along_on : (deps : List Id) (at p q : List Tagged) (a : Tree) (t : Rows) (b d : Tree) (key key2 : Option Key) (k : Key) (x : Next) (ids more all : List Id) (u o v : Rows) → HasPlace at a → p ≡ at → q ≡ at → Along deps at a t b key ids u → key ≡ Some k → next k (here p b) ≡ Some x → Clears (λ c. ClearElem c deps k) q b d more o v → o ≡ one_deeper (pushed u R.ClearList2) → all ≡ union ids more → key2 ≡ after x → Along deps at a t d key2 all v × (steps key2 (length (links (here at a))) (here at a) < steps key (length (links (here at a))) (here at a))
-along_on deps at p q a t b d key key2 k x ids more all u o v h pe qe w f n z oe i g =
-    let was : next k (here at a) ≡ Some x = sym (next_was deps at p a t b key ids u k h pe w) ∙ n in
-    let now : next k (here at b) ≡ Some x = next_was deps at at a t b key ids u k h refl w ∙ was in
+pub along_on : (deps : List Id) (at : List Tagged) (a : Tree) (t : Rows) (b d : Tree) (key key2 : Option Key) (k : Key) (x : Next) (ids more all : List Id) (u o v : Rows) → HasPlace at a → Along deps at a t b key ids u → key ≡ Some k → next k (here at b) ≡ Some x → Clears (λ c. ClearElem c deps k) at b d more o v → o ≡ one_deeper (pushed u R.ClearList2) → all ≡ union ids more → key2 ≡ after x → Along deps at a t d key2 all v × (steps key2 (length (links (here at a))) (here at a) < steps key (length (links (here at a))) (here at a))
+along_on deps at a t b d key key2 k x ids more all u o v h w f now elem oe i g =
+    let was : next k (here at a) ≡ Some x = sym (next_was deps at a t b key ids u k h w) ∙ now in
     let turn = subst (λ (y : Option Key). Turn (λ c. ClearList c deps (Some Head)) (λ c. ClearList c deps y) at a t b ids u) f w.turn in
-    let elem = subst (λ (y : List Tagged). Clears (λ c. ClearElem c deps k) y b d more o v) qe z in
     let on = leads_on (here at a) k x (subst (λ (y : Option Key). Leads (here at a) y) f w.leads) was in
     rw (g, f) (
       record {

@@ -66,54 +66,50 @@ left-after last done c h = ap least (filter-same (λ k. not (is_done done k)) (�
 first_through : (deps : List Id) (at : List Tagged) (a : Tree) (t : Rows) (last : Option Key) (ids : List Id) → HasPlace at a → last ≡ None → ids ≡ [] → Through deps at a t a last ids t
 first_through deps at a t last ids p e i = rw e (record { done = []; are_done = none_done (keys (here at a)); turn = first_turn _ at a t ids p i })
 
-after_through : (deps : List Id) (at p : List Tagged) (a : Tree) (t : Rows) (b : Tree) (last : Option Key) (ids : List Id) (u : Rows) → HasPlace at a → p ≡ at → Through deps at a t b last ids u → After at p a b
-after_through deps at p a t b last ids u h e w = after_turns _ _ at p a t b ids u h e w.turn
+after_through : (deps : List Id) (at : List Tagged) (a : Tree) (t : Rows) (b : Tree) (last : Option Key) (ids : List Id) (u : Rows) → HasPlace at a → Through deps at a t b last ids u → After at a b
+after_through deps at a t b last ids u h w = after_turns _ _ at a t b ids u h w.turn
 
-keys_were : (deps : List Id) (at p : List Tagged) (a : Tree) (t : Rows) (b : Tree) (last : Option Key) (ids : List Id) (u : Rows) → HasPlace at a → p ≡ at → Through deps at a t b last ids u → keys (here p b) ≡ keys (here at a)
-keys_were deps at p a t b last ids u h e w = keys-same (here p b) (here at a) (after_through deps at p a t b last ids u h e w).same
+keys_were : (deps : List Id) (at : List Tagged) (a : Tree) (t : Rows) (b : Tree) (last : Option Key) (ids : List Id) (u : Rows) → HasPlace at a → Through deps at a t b last ids u → keys (here at b) ≡ keys (here at a)
+keys_were deps at a t b last ids u h w = keys-same (here at b) (here at a) (after_through deps at a t b last ids u h w).same
 
-left_now : (deps : List Id) (at p : List Tagged) (a : Tree) (t : Rows) (b : Tree) (last : Option Key) (ids : List Id) (u : Rows) (w : Through deps at a t b last ids u) → HasPlace at a → p ≡ at → least_left w.done (here at b) ≡ least_after last (keys (here p b))
-left_now deps at p a t b last ids u w h e =
-    let same : keys (here at b) ≡ keys (here at a) = keys_were deps at at a t b last ids u h refl w in
-    let also : keys (here p b) ≡ keys (here at a) = keys_were deps at p a t b last ids u h e w in
-    left-after last w.done (here at b) (rw same w.are_done) ∙ ap (least_after last) (same ∙ sym also)
+left_now : (deps : List Id) (at : List Tagged) (a : Tree) (t : Rows) (b : Tree) (last : Option Key) (ids : List Id) (u : Rows) (w : Through deps at a t b last ids u) → HasPlace at a → least_left w.done (here at b) ≡ least_after last (keys (here at b))
+left_now deps at a t b last ids u w h = left-after last w.done (here at b) (rw (keys_were deps at a t b last ids u h w) w.are_done)
 
 -- one key further
-through_on : (deps : List Id) (at p q : List Tagged) (a : Tree) (t : Rows) (b d : Tree) (last last2 : Option Key) (k : Key) (ids more all : List Id) (u o v : Rows) → HasPlace at a → p ≡ at → q ≡ at → Through deps at a t b last ids u → least_after last (keys (here p b)) ≡ Some k → Clears (λ c. ClearElem c deps k) q b d more o v → o ≡ one_deeper (pushed u R.ClearMap2) → all ≡ union ids more → last2 ≡ Some k → Through deps at a t d last2 all v
-through_on deps at p q a t b d last last2 k ids more all u o v h pe qe w n z oe i g =
-    let was : least_after last (keys (here at a)) ≡ Some k = ap (least_after last) (sym (keys_were deps at p a t b last ids u h pe w)) ∙ n in
-    let now : least_left w.done (here at b) ≡ Some k = left_now deps at p a t b last ids u w h pe ∙ n in
-    let elem = subst (λ (y : List Tagged). Clears (λ c. ClearElem c deps k) y b d more o v) qe z in
-    rw g (record {
+through_on : (deps : List Id) (at : List Tagged) (a : Tree) (t : Rows) (b d : Tree) (last : Option Key) (k : Key) (ids more all : List Id) (u o v : Rows) → HasPlace at a → Through deps at a t b last ids u → least_after last (keys (here at b)) ≡ Some k → Clears (λ c. ClearElem c deps k) at b d more o v → o ≡ one_deeper (pushed u R.ClearMap2) → all ≡ union ids more → Through deps at a t d (Some k) all v
+through_on deps at a t b d last k ids more all u o v h w n elem oe i =
+    let was : least_after last (keys (here at a)) ≡ Some k = ap (least_after last) (sym (keys_were deps at a t b last ids u h w)) ∙ n in
+    let now : least_left w.done (here at b) ≡ Some k = left_now deps at a t b last ids u w h ∙ n in
+    record {
       done = k ∷ w.done;
       are_done = done_next last w.done (here at a) k w.are_done was;
       turn = next_turn _ (λ c. ClearMap c deps w.done) (λ c. ClearMap c deps (k ∷ w.done)) R.ClearMap2 at a t b d deps k ids more all u o v h w.turn elem oe i (λ c1 c2 s. (k, c1, more, c2, s, now, refl, refl));
-    })
+    }
 
-last_through : (deps : List Id) (at p : List Tagged) (a : Tree) (t : Rows) (b : Tree) (last : Option Key) (ids : List Id) (u v : Rows) → HasPlace at a → p ≡ at → Through deps at a t b last ids u → least_after last (keys (here p b)) ≡ None → v ≡ at_depth t.depth (pushed u R.ClearMap3) → Clears (λ c. ClearMap c deps []) at a b ids t v
-last_through deps at p a t b last ids u v h pe w n e =
-    last_turn _ (λ c. ClearMap c deps w.done) R.ClearMap3 at a t b ids u v h w.turn e (left_now deps at p a t b last ids u w h pe ∙ n, refl, refl)
+last_through : (deps : List Id) (at : List Tagged) (a : Tree) (t : Rows) (b : Tree) (last : Option Key) (ids : List Id) (u v : Rows) → HasPlace at a → Through deps at a t b last ids u → least_after last (keys (here at b)) ≡ None → v ≡ at_depth t.depth (pushed u R.ClearMap3) → Clears (λ c. ClearMap c deps []) at a b ids t v
+last_through deps at a t b last ids u v h w n e =
+    last_turn _ (λ c. ClearMap c deps w.done) R.ClearMap3 at a t b ids u v h w.turn e (left_now deps at a t b last ids u w h ∙ n, refl, refl)
 
 pub first_keys : (deps : List Id) (at : List Tagged) (a : Tree) (t : Rows) (ks : List Key) (ids : List Id) → HasPlace at a → AreContentKeys ks (here at a) → ids ≡ [] → ThroughKeys deps at a t a ks ids t
 first_keys deps at a t ks ids p c i = record { last = None; left = all_left ks (here at a) c; through = first_through deps at a t None ids p refl i }
 
-pub after_keys : (deps : List Id) (at p : List Tagged) (a : Tree) (t : Rows) (b : Tree) (ks : List Key) (ids : List Id) (u : Rows) → HasPlace at a → p ≡ at → ThroughKeys deps at a t b ks ids u → After at p a b
-after_keys deps at p a t b ks ids u h e w = after_through deps at p a t b w.last ids u h e w.through
+pub after_keys : (deps : List Id) (at : List Tagged) (a : Tree) (t : Rows) (b : Tree) (ks : List Key) (ids : List Id) (u : Rows) → HasPlace at a → ThroughKeys deps at a t b ks ids u → After at a b
+after_keys deps at a t b ks ids u h w = after_through deps at a t b w.last ids u h w.through
 
-pub keys_on : (deps : List Id) (at p : List Tagged) (a : Tree) (t : Rows) (b d : Tree) (k : Key) (ks left : List Key) (ids more all : List Id) (u o v : Rows) → HasPlace at a → p ≡ at → left ≡ k ∷ ks → ThroughKeys deps at a t b left ids u → Clears (λ c. ClearElem c deps k) p b d more o v → o ≡ one_deeper (pushed u R.ClearMap2) → all ≡ union ids more → ThroughKeys deps at a t d ks all v
-keys_on deps at p a t b d k ks left ids more all u o v h e f w z oe i =
+pub keys_on : (deps : List Id) (at : List Tagged) (a : Tree) (t : Rows) (b d : Tree) (k : Key) (ks left : List Key) (ids more all : List Id) (u o v : Rows) → HasPlace at a → left ≡ k ∷ ks → ThroughKeys deps at a t b left ids u → Clears (λ c. ClearElem c deps k) at b d more o v → o ≡ one_deeper (pushed u R.ClearMap2) → all ≡ union ids more → ThroughKeys deps at a t d ks all v
+keys_on deps at a t b d k ks left ids more all u o v h f w z oe i =
     let l : AreLeft w.last (k ∷ ks) (here at a) = subst (λ (js : List Key). AreLeft w.last js (here at a)) f w.left in
-    let n : least_after w.last (keys (here p b)) ≡ Some k = ap (least_after w.last) (keys_were deps at p a t b w.last ids u h e w.through) ∙ first_is_least w.last k ks (here at a) l in
+    let n : least_after w.last (keys (here at b)) ≡ Some k = ap (least_after w.last) (keys_were deps at a t b w.last ids u h w.through) ∙ first_is_least w.last k ks (here at a) l in
     record {
       last = Some k;
       left = next_left w.last k ks (here at a) l;
-      through = through_on deps at p p a t b d w.last (Some k) k ids more all u o v h e e w.through n z oe i refl;
+      through = through_on deps at a t b d w.last k ids more all u o v h w.through n z oe i;
     }
 
 pub last_keys : (deps : List Id) (at : List Tagged) (a : Tree) (t : Rows) (b : Tree) (ks : List Key) (ids : List Id) (u v : Rows) → HasPlace at a → ks ≡ [] → ThroughKeys deps at a t b ks ids u → v ≡ at_depth t.depth (pushed u R.ClearMap3) → Clears (λ c. ClearMap c deps []) at a b ids t v
 last_keys deps at a t b ks ids u v h f w e =
     let l : AreLeft w.last [] (here at a) = subst (λ (js : List Key). AreLeft w.last js (here at a)) f w.left in
-    last_through deps at at a t b w.last ids u v h refl w.through (ap (least_after w.last) (keys_were deps at at a t b w.last ids u h refl w.through) ∙ none_left w.last (here at a) l) e
+    last_through deps at a t b w.last ids u v h w.through (ap (least_after w.last) (keys_were deps at a t b w.last ids u h w.through) ∙ none_left w.last (here at a) l) e
 
 -- the first keys that are left, where the keys with a content are listed
 
@@ -124,7 +120,7 @@ has_cleared c k i = rw (i.map, i.list, i.register) refl
 pub cleared_on : (deps : List Id) (at : List Tagged) (a : Tree) (t : Rows) (k : Key) (ks left : List Key) (u o v : Rows) → HasPlace at a → IsCleared k (here at a) → left ≡ filter (λ j. has_content (here at a) j) (k ∷ ks) → ThroughKeys deps at a t a left [] u → Clears (λ c. ClearElem c deps k) at a a [] o v → o ≡ one_deeper (pushed u R.ClearMap2) → ThroughKeys deps at a t a (filter (λ j. has_content (here at a) j) ks) [] v
 cleared_on deps at a t k ks left u o v h i f w z oe =
     let has : has_content (here at a) k ≡ true = has_cleared (here at a) k i in
-    keys_on deps at at a t a a k (filter (λ j. has_content (here at a) j) ks) left [] [] [] u o v h refl (f ∙ rw has refl) w z oe refl
+    keys_on deps at a t a a k (filter (λ j. has_content (here at a) j) ks) left [] [] [] u o v h (f ∙ rw has refl) w z oe refl
 
 module _ {X : Type 0} (p : Key → Bool) where
   -- one goes over into a list

@@ -33,7 +33,7 @@ use Rattle.jc_clear.specs.Clears.{Clears}
 use Rattle.jc_clear.proofs.BareLemmas.{bare-presence, bare-register, bare-with, nested_below, below-same, nested-same}
 use Rattle.jc_tree.proofs.ChainedBelowLemmas.{map_below, list_below, below-chained}
 use Rattle.jc_tree.proofs.PathLemmas.{found_node}
-use Rattle.jc_tree.proofs.PlacesLemmas.{then_here, then_place, then_now, some_place}
+use Rattle.jc_tree.proofs.PlacesLemmas.{then_here, then_place, then_now}
 
 pub presence_there : (c : Context) (k : Key) (s ids : List Id) (t u : Rows) → presence k c ≡ Some s → ids ≡ s → u ≡ pushed t R.Presence1 → Derives (Presence c k) (ToIds ids) t u
 presence_there c k s ids t u h i e = rw (i, e) (by_axiom R.Presence1 _ _ t (s, h, refl, refl))
@@ -64,18 +64,16 @@ clear_values at deps k r left a b ids t u h w rising e s i =
       rises = rising.0;
     })
 
-pub clear_elem : (at p q : List Tagged) (deps : List Id) (k : Key) (a b d : Tree) (s1 s2 s3 s4 : List Id) (t o u v w : Rows) → HasPlace at a → o ≡ one_deeper (pushed t R.ClearElem) → Clears (λ c. ClearAny c deps k) at a b s1 o u → p ≡ at → Derives (Presence (here p b) k) (ToIds s2) u v → s3 ≡ without (union s1 s2) deps → q ≡ at → s4 ≡ s3 → d.now ≡ with_node_at q (with_presence k s4 (here q b)) b.now → w ≡ at_depth t.depth v → Clears (λ c. ClearElem c deps k) at a d s3 t w
-clear_elem at p q deps k a b d s1 s2 s3 s4 t o u v w h f any pe pres is qe se put e =
+pub clear_elem : (at : List Tagged) (deps : List Id) (k : Key) (a b d : Tree) (s1 s2 s3 s4 : List Id) (t o u v w : Rows) → HasPlace at a → o ≡ one_deeper (pushed t R.ClearElem) → Clears (λ c. ClearAny c deps k) at a b s1 o u → Derives (Presence (here at b) k) (ToIds s2) u v → s3 ≡ without (union s1 s2) deps → s4 ≡ s3 → d.now ≡ with_node_at at (with_presence k s4 (here at b)) b.now → w ≡ at_depth t.depth v → Clears (λ c. ClearElem c deps k) at a d s3 t w
+clear_elem at deps k a b d s1 s2 s3 s4 t o u v w h f any pres is se put e =
     let y = any.after in
     let hb : here at b ≡ y = then_here at y a b h any.now in
     let first = subst (λ (r : Rows). Derives (ClearAny (here at a) deps k) (Cleared y s1) r u) f any.derives in
-    let pres2 = subst (λ (r : List Tagged). Derives (Presence (here r b) k) (ToIds s2) u v) pe pres in
-    let second = subst (λ (x : Context). Derives (Presence x k) (ToIds s2) u v) hb pres2 in
-    let put2 = subst (λ (r : List Tagged). d.now ≡ with_node_at r (with_presence k s4 (here r b)) b.now) qe put in
+    let second = subst (λ (x : Context). Derives (Presence x k) (ToIds s2) u v) hb pres in
     rw (e, is) (record {
       after = with_presence k (without (union s1 s2) deps) y;
       derives = two_premises R.ClearElem _ _ _ _ _ _ t u v first second (y, s1, s2, refl, refl);
-      now = then_now at y _ a b d any.now (put2 ∙ rw (hb, se, is) refl);
+      now = then_now at y _ a b d any.now (put ∙ rw (hb, se, is) refl);
       same = bare-presence k _ y ∙ any.same;
       rises = without-rises (union s1 s2) deps (union-rises s1 s2);
     })
@@ -83,10 +81,8 @@ clear_elem at p q deps k a b d s1 s2 s3 s4 t o u v w h f any pe pres is qe se pu
 pub rises_left : (deps s1 s2 s all ids : List Id) → all ≡ union s1 s → s2 ≡ all → ids ≡ without s2 deps → AreRising ids
 rises_left deps s1 s2 s all ids e f g = rw (g, f, e) (without-rises (union s1 s) deps (union-rises s1 s))
 
-pub clear_any : (at p q : List Tagged) (deps : List Id) (k : Key) (a b d e : Tree) (s1 s2 s3 s : List Id) (t o t1 t2 t3 u : Rows) → HasPlace at a → o ≡ one_deeper (pushed t R.ClearAny) → Clears (λ c. Clear c deps (MapT k)) at a b s1 o t1 → p ≡ at → Clears (λ c. Clear c deps (ListT k)) p b d s2 t1 t2 → q ≡ at → Clears (λ c. Clear c deps (RegT k)) q d e s3 t2 t3 → s ≡ union s1 (union s2 s3) → u ≡ at_depth t.depth t3 → Clears (λ c. ClearAny c deps k) at a e s t u
-clear_any at p q deps k a b d e s1 s2 s3 s t o t1 t2 t3 u h oe x pe y1 qe z1 is f =
-    let y = subst (λ (r : List Tagged). Clears (λ c. Clear c deps (ListT k)) r b d s2 t1 t2) pe y1 in
-    let z = subst (λ (r : List Tagged). Clears (λ c. Clear c deps (RegT k)) r d e s3 t2 t3) qe z1 in
+pub clear_any : (at : List Tagged) (deps : List Id) (k : Key) (a b d e : Tree) (s1 s2 s3 s : List Id) (t o t1 t2 t3 u : Rows) → HasPlace at a → o ≡ one_deeper (pushed t R.ClearAny) → Clears (λ c. Clear c deps (MapT k)) at a b s1 o t1 → Clears (λ c. Clear c deps (ListT k)) at b d s2 t1 t2 → Clears (λ c. Clear c deps (RegT k)) at d e s3 t2 t3 → s ≡ union s1 (union s2 s3) → u ≡ at_depth t.depth t3 → Clears (λ c. ClearAny c deps k) at a e s t u
+clear_any at deps k a b d e s1 s2 s3 s t o t1 t2 t3 u h oe x y z is f =
     let hb : here at b ≡ x.after = then_here at _ a b h x.now in
     let pb : HasPlace at b = then_place at _ a b h x.now in
     let hd : here at d ≡ y.after = then_here at _ b d pb y.now in
@@ -109,66 +105,63 @@ down_here : (at : List Tagged) (k : Tagged) (d : Context) (a : Tree) → HasPlac
 down_here at k d a p h = rw (down_node at k d a p h) refl
 
 -- what a call one key further down may ask for
-pub record Down (P : Context → Type 0) (at p : List Tagged) (a : Tree) : Type 0 where
-  pub there : HasPlace p a
-  pub chained : P (here p a)
-  pub smaller : suc (nested (here p a)) ≤ nested (here at a)
+pub record Down (P : Context → Type 0) (at : List Tagged) (k : Tagged) (a : Tree) : Type 0 where
+  pub chained : P (here (at ++ k ∷ []) a)
+  pub smaller : suc (nested (here (at ++ k ∷ []) a)) ≤ nested (here at a)
 
-down : (P : Context → Type 0) (at p : List Tagged) (k : Tagged) (d : Context) (a : Tree) → HasPlace at a → p ≡ at ++ k ∷ [] → content k (here at a) ≡ Some (Node d) → P d → Down P at p a
-down P at p k d a h e q c =
+down : (P : Context → Type 0) (at : List Tagged) (k : Tagged) (d : Context) (a : Tree) → HasPlace at a → content k (here at a) ≡ Some (Node d) → P d → Down P at k a
+down P at k d a h q c =
     let i : here (at ++ k ∷ []) a ≡ d = down_here at k d a h q in
-    subst (λ (r : List Tagged). Down P at r a) (sym e) (record { there = some_place (at ++ k ∷ []) a.now d (down_node at k d a h q); chained = rw i c; smaller = rw i (nested_below k (here at a) d q) })
+    record { chained = rw i c; smaller = rw i (nested_below k (here at a) d q) }
 
-pub down_map : (at p : List Tagged) (k : Key) (a : Tree) → HasPlace at a → p ≡ at ++ MapT k ∷ [] → is_some (content (MapT k) (here at a)) ≡ true → AreChainedBelow (here at a) → Down AreChainedBelow at p a
-down_map at p k a h e q c =
+pub down_map : (at : List Tagged) (k : Key) (a : Tree) → HasPlace at a → is_some (content (MapT k) (here at a)) ≡ true → AreChainedBelow (here at a) → Down AreChainedBelow at (MapT k) a
+down_map at k a h q c =
     let d = found_node (find key_cmp k (maps (here at a))) q in
-    down AreChainedBelow at p (MapT k) d.0 a h e d.1 (below-chained d.0 (map_below k (here at a) d.0 d.1 c))
+    down AreChainedBelow at (MapT k) d.0 a h d.1 (below-chained d.0 (map_below k (here at a) d.0 d.1 c))
 
-pub down_list : (at p : List Tagged) (k : Key) (a : Tree) → HasPlace at a → p ≡ at ++ ListT k ∷ [] → is_some (content (ListT k) (here at a)) ≡ true → AreChainedBelow (here at a) → Down IsChainedList at p a
-down_list at p k a h e q c =
+pub down_list : (at : List Tagged) (k : Key) (a : Tree) → HasPlace at a → is_some (content (ListT k) (here at a)) ≡ true → AreChainedBelow (here at a) → Down IsChainedList at (ListT k) a
+down_list at k a h q c =
     let d = found_node (find key_cmp k (lists (here at a))) q in
-    down IsChainedList at p (ListT k) d.0 a h e d.1 (list_below k (here at a) d.0 d.1 c)
+    down IsChainedList at (ListT k) d.0 a h d.1 (list_below k (here at a) d.0 d.1 c)
 
 -- what is under a key was cleared
-cleared_below : (at p : List Tagged) (deps : List Id) (k : Tagged) (d : Context) (rule : Rule) (q : Context → Question) (a b : Tree) (s : List Id) (t o u v : Rows) → HasPlace at a → content k (here at a) ≡ Some (Node d) → p ≡ at ++ k ∷ [] → o ≡ one_deeper (pushed t rule) → Clears q p a b s o u → v ≡ at_depth t.depth u → ((e : Context) → Follows rule (Clear (here at a) deps k) (Cleared (with_content k (Node e) (here at a)) s) (gives (q d) (Cleared e s) ∷ [])) → Clears (λ c. Clear c deps k) at a b s t v
-cleared_below at p deps k d rule q a b s t o u v h f pe oe x ve follows =
-    let x2 = subst (λ (y : List Tagged). Clears q y a b s o u) pe x in
+cleared_below : (at : List Tagged) (deps : List Id) (k : Tagged) (d : Context) (rule : Rule) (q : Context → Question) (a b : Tree) (s : List Id) (t o u v : Rows) → HasPlace at a → content k (here at a) ≡ Some (Node d) → o ≡ one_deeper (pushed t rule) → Clears q (at ++ k ∷ []) a b s o u → v ≡ at_depth t.depth u → ((e : Context) → Follows rule (Clear (here at a) deps k) (Cleared (with_content k (Node e) (here at a)) s) (gives (q d) (Cleared e s) ∷ [])) → Clears (λ c. Clear c deps k) at a b s t v
+cleared_below at deps k d rule q a b s t o u v h f oe x ve follows =
     let i : here (at ++ k ∷ []) a ≡ d = down_here at k d a h f in
-    let inner = subst (λ (c : Context). Derives (q c) (Cleared x2.after s) o u) i x2.derives in
-    let inner2 = subst (λ (y : Rows). Derives (q d) (Cleared x2.after s) y u) oe inner in
+    let inner = subst (λ (c : Context). Derives (q c) (Cleared x.after s) o u) i x.derives in
+    let inner2 = subst (λ (y : Rows). Derives (q d) (Cleared x.after s) y u) oe inner in
     rw ve (record {
-      after = with_content k (Node x2.after) (here at a);
-      derives = one_premise rule (Clear (here at a) deps k) (Cleared (with_content k (Node x2.after) (here at a)) s) _ _ t u inner2 (follows x2.after);
-      now = x2.now ∙ with_node-below at k (here at a) d x2.after a.now (there at a.now h) f;
-      same = bare-with k (here at a) d x2.after f (x2.same ∙ ap bare i);
-      rises = x2.rises;
+      after = with_content k (Node x.after) (here at a);
+      derives = one_premise rule (Clear (here at a) deps k) (Cleared (with_content k (Node x.after) (here at a)) s) _ _ t u inner2 (follows x.after);
+      now = x.now ∙ with_node-below at k (here at a) d x.after a.now (there at a.now h) f;
+      same = bare-with k (here at a) d x.after f (x.same ∙ ap bare i);
+      rises = x.rises;
     })
 
-pub map_cleared : (at p : List Tagged) (deps : List Id) (k : Key) (a b : Tree) (s : List Id) (t o u v : Rows) → HasPlace at a → is_some (content (MapT k) (here at a)) ≡ true → p ≡ at ++ MapT k ∷ [] → o ≡ one_deeper (pushed t R.ClearMap1) → Clears (λ c. ClearMap c deps []) p a b s o u → v ≡ at_depth t.depth u → Clears (λ c. Clear c deps (MapT k)) at a b s t v
-map_cleared at p deps k a b s t o u v h q pe oe x ve =
+pub map_cleared : (at : List Tagged) (deps : List Id) (k : Key) (a b : Tree) (s : List Id) (t o u v : Rows) → HasPlace at a → is_some (content (MapT k) (here at a)) ≡ true → o ≡ one_deeper (pushed t R.ClearMap1) → Clears (λ c. ClearMap c deps []) (at ++ MapT k ∷ []) a b s o u → v ≡ at_depth t.depth u → Clears (λ c. Clear c deps (MapT k)) at a b s t v
+map_cleared at deps k a b s t o u v h q oe x ve =
     let d = found_node (find key_cmp k (maps (here at a))) q in
-    cleared_below at p deps (MapT k) d.0 R.ClearMap1 (λ c. ClearMap c deps []) a b s t o u v h d.1 pe oe x ve (λ e. (d.0, e, s, d.1, refl, refl))
+    cleared_below at deps (MapT k) d.0 R.ClearMap1 (λ c. ClearMap c deps []) a b s t o u v h d.1 oe x ve (λ e. (d.0, e, s, d.1, refl, refl))
 
-pub list_cleared : (at p : List Tagged) (deps : List Id) (k : Key) (a b : Tree) (s : List Id) (t o u v : Rows) → HasPlace at a → is_some (content (ListT k) (here at a)) ≡ true → p ≡ at ++ ListT k ∷ [] → o ≡ one_deeper (pushed t R.ClearList1) → Clears (λ c. ClearList c deps (Some Head)) p a b s o u → v ≡ at_depth t.depth u → Clears (λ c. Clear c deps (ListT k)) at a b s t v
-list_cleared at p deps k a b s t o u v h q pe oe x ve =
+pub list_cleared : (at : List Tagged) (deps : List Id) (k : Key) (a b : Tree) (s : List Id) (t o u v : Rows) → HasPlace at a → is_some (content (ListT k) (here at a)) ≡ true → o ≡ one_deeper (pushed t R.ClearList1) → Clears (λ c. ClearList c deps (Some Head)) (at ++ ListT k ∷ []) a b s o u → v ≡ at_depth t.depth u → Clears (λ c. Clear c deps (ListT k)) at a b s t v
+list_cleared at deps k a b s t o u v h q oe x ve =
     let d = found_node (find key_cmp k (lists (here at a))) q in
-    cleared_below at p deps (ListT k) d.0 R.ClearList1 (λ c. ClearList c deps (Some Head)) a b s t o u v h d.1 pe oe x ve (λ e. (d.0, e, s, d.1, refl, refl))
+    cleared_below at deps (ListT k) d.0 R.ClearList1 (λ c. ClearList c deps (Some Head)) a b s t o u v h d.1 oe x ve (λ e. (d.0, e, s, d.1, refl, refl))
 
 -- after a call at a place
-pub record After (at p : List Tagged) (a b : Tree) : Type 0 where
-  pub there : HasPlace p b
-  pub below : AreChainedBelow (here at a) → AreChainedBelow (here p b)
-  pub nested : nested (here p b) ≡ nested (here at a)
-  pub same : bare (here p b) ≡ bare (here at a)
+pub record After (at : List Tagged) (a b : Tree) : Type 0 where
+  pub below : AreChainedBelow (here at a) → AreChainedBelow (here at b)
+  pub nested : nested (here at b) ≡ nested (here at a)
+  pub same : bare (here at b) ≡ bare (here at a)
 
-pub after_change : (at p : List Tagged) (y : Context) (a b : Tree) → HasPlace at a → p ≡ at → b.now ≡ with_node_at at y a.now → bare y ≡ bare (here at a) → After at p a b
-after_change at p y a b h e f s =
+pub after_change : (at : List Tagged) (y : Context) (a b : Tree) → HasPlace at a → b.now ≡ with_node_at at y a.now → bare y ≡ bare (here at a) → After at a b
+after_change at y a b h f s =
     let i : here at b ≡ y = then_here at y a b h f in
     let same : bare (here at b) ≡ bare (here at a) = ap bare i ∙ s in
-    subst (λ (r : List Tagged). After at r a b) (sym e) (record { there = then_place at y a b h f; below = below-same (here at a) (here at b) (sym same); nested = nested-same (here at b) (here at a) same; same = same })
+    record { below = below-same (here at a) (here at b) (sym same); nested = nested-same (here at b) (here at a) same; same = same }
 
-pub after_call : (q : Context → Question) (at p : List Tagged) (a b : Tree) (ids : List Id) (t u : Rows) → HasPlace at a → p ≡ at → Clears q at a b ids t u → After at p a b
-after_call q at p a b ids t u h e x = after_change at p x.after a b h e x.now x.same
+pub after_call : (q : Context → Question) (at : List Tagged) (a b : Tree) (ids : List Id) (t u : Rows) → HasPlace at a → Clears q at a b ids t u → After at a b
+after_call q at a b ids t u h x = after_change at x.after a b h x.now x.same
 
 -- what is set to what it is stays
 pub presence_stays : (at : List Tagged) (k : Key) (s : List Id) (a : Tree) → HasPlace at a → presence k (here at a) ≡ Some s → a.now ≡ with_node_at at (with_presence k s (here at a)) a.now

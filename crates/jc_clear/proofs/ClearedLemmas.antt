@@ -17,5 +17,5 @@ cleared_again at a deps k t o p t1 t2 t3 u v w h is oe pe e1 e2 e3 ue ve we =
     let maps = clear_none at deps (MapT k) a a [] p t1 h is.map e1 refl refl in
     let lists = clear_none at deps (ListT k) a a [] t1 t2 h is.list e2 refl refl in
     let values = clear_values at deps k [] [] a a [] t2 t3 is.register refl (tt, tt) e3 (register_stays at k [] [] a h is.register refl) refl in
-    let any : Clears (λ c. ClearAny c deps k) at a a [] o u = clear_any at at at deps k a a a a [] [] [] [] o p t1 t2 t3 u h pe maps refl lists refl values refl ue in
-    clear_elem at at at deps k a a a [] [] [] [] t o u v w h oe any refl (presence_there (here at a) k [] [] u v is.presence refl ve) refl refl refl (presence_stays at k [] a h is.presence) we
+    let any : Clears (λ c. ClearAny c deps k) at a a [] o u = clear_any at deps k a a a a [] [] [] [] o p t1 t2 t3 u h pe maps lists values refl ue in
+    clear_elem at deps k a a a [] [] [] [] t o u v w h oe any (presence_there (here at a) k [] [] u v is.presence refl ve) refl refl (presence_stays at k [] a h is.presence) we

@@ -1,19 +1,15 @@
 -- About Bare: below a place of a chained content lists are chained, and the content stays chained.
 use Rattle.std.proofs.Common.{◌≡◌, List, [], ◌∷◌, Option, Some, None, refl, sym, ◌∙◌, ap}
-use Rattle.jc_rules.specs.declared.id.Id.{Id}
 use Rattle.jc_rules.specs.declared.key.Tagged.{Tagged}
 use Rattle.jc_rules.specs.Context.{Context, Content, Node, Values, content}
 use Rattle.jc_rules.specs.WellFormed.{IsChained}
 use Rattle.jc_rules.specs.ContextsAt.{node_at, with_node_at}
 use Rattle.jc_rules.proofs.ContextsAtLemmas.{there}
 use Rattle.jc_tree.specs.Tree.{Tree, HasPlace, here}
-use Rattle.jc_rules.specs.Derivation.{Question}
-use Rattle.jc_rules.specs.Trace.{Rows}
-use Rattle.jc_clear.specs.Clears.{Clears}
 use Rattle.jc_tree.specs.ChainedBelow.{AreChainedBelow}
 use Rattle.jc_clear.specs.Bare.{bare}
 use Rattle.jc_tree.proofs.ChainedBelowLemmas.{below-chained, child_below}
-use Rattle.jc_clear.proofs.BareLemmas.{bare-with, chained-same, still_there}
+use Rattle.jc_clear.proofs.BareLemmas.{bare-with, chained-same}
 
 -- what is chained below the content is chained below a place
 chained_node : (ks : List Tagged) (c d : Context) → node_at ks c ≡ Some d → AreChainedBelow c → AreChainedBelow d
@@ -43,7 +39,3 @@ bare_changed at y a b p e s = ap bare e ∙ bare_node at a.now (here at a) y (th
 
 pub still_chained : (at : List Tagged) (y : Context) (a b : Tree) → HasPlace at a → b.now ≡ with_node_at at y a.now → bare y ≡ bare (here at a) → IsChained a.now → IsChained b.now
 still_chained at y a b p e s h = chained-same a.now b.now (sym (bare_changed at y a b p e s)) h
-
--- clearing leaves each place there
-pub places_stay : (q : Context → Question) (at ks : List Tagged) (a b : Tree) (ids : List Id) (t u : Rows) → HasPlace at a → Clears q at a b ids t u → HasPlace ks a → HasPlace ks b
-places_stay q at ks a b ids t u p x h = still_there ks a.now b.now (sym (bare_changed at x.after a b p x.now x.same)) h

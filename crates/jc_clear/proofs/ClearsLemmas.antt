@@ -62,5 +62,5 @@ last_turn whole left rule at a t b ids u v p w e follows =
       rises = w.rises;
     })
 
-pub after_turns : (whole left : Context → Question) (at p : List Tagged) (a : Tree) (t : Rows) (b : Tree) (ids : List Id) (u : Rows) → HasPlace at a → p ≡ at → Turn whole left at a t b ids u → After at p a b
-after_turns whole left at p a t b ids u h e w = after_change at p w.so_far a b h e w.now w.same
+pub after_turns : (whole left : Context → Question) (at : List Tagged) (a : Tree) (t : Rows) (b : Tree) (ids : List Id) (u : Rows) → HasPlace at a → Turn whole left at a t b ids u → After at a b
+after_turns whole left at a t b ids u h w = after_change at w.so_far a b h w.now w.same

@@ -25,10 +25,7 @@ fn is_empty<X>(items: Option<&[X]>) -> bool
 }
 
 /// Whether the key has an empty presence set and an empty register, and nothing else.
-pub(crate) fn is_cleared<S: TreeStore>(
-    store: &S,
-    key: KeyAt<'_>,
-) -> bool
+pub(crate) fn is_cleared<S: TreeStore>(store: &S, key: KeyAt<'_>) -> bool
     requires { (at : List AnyTagged) × S.names store.now key.place at }
     ensures { (at : List AnyTagged) → S.names store.now key.entry.place at
         → IsTrue result → IsCleared key.entry.key.now (here at (S.tree store.now)) }

@@ -1,5 +1,5 @@
 -- About WayDown: the way down a path, key by key.
-use Rattle.std.proofs.Common.{◌≡◌, ◌≢◌, ℕ, suc, ◌+◌, ◌<◌, ◌≤◌, List, [], ◌∷◌, ◌++◌, length, take, drop, get_or, Some, None, is_some, Bool, true, false, refl, sym, ◌∙◌, ap, subst, add-one, drop-cons}
+use Rattle.std.proofs.Common.{◌≡◌, ◌≢◌, ℕ, suc, ◌+◌, ◌<◌, ◌≤◌, List, [], ◌∷◌, ◌++◌, length, take, drop, get_or, Some, None, is_some, true, false, refl, sym, ◌∙◌, ap, subst, add-one, drop-cons}
 use Rattle.std.proofs.Math.Seq.{take-suc}
 use Rattle.std.proofs.lemmas.List.{take_all, drop_all}
 use Rattle.std.specs.List.{AllByRecursion}
@@ -97,19 +97,9 @@ module _ (r : Rule) (path : List Tagged) (n : ℕ) (c : Context) (t u : Rows) (a
   down_refuses = λ Q why R x.
       w.refuses Q why R (subst (λ (p : List Tagged). Refused (Q p (context_at (take n path) c)) why) (sym no_rest) (subst (λ (p : List Tagged). Refused (Q [] (context_at p c)) why) (sym at_end) x))
 
--- a map below a path
-pub record MapBelow (path down : List Tagged) (k : Key) (c : Context) : Type 0 where
-  pub place : node_at down c ≢ None
-  pub is : content (MapT k) (context_at path c) ≡ Some (Node (context_at down c))
-
-pub map_below : (path place : List Tagged) (k : Key) (b : Bool) (c : Context) → node_at path c ≢ None → b ≡ is_some (content (MapT k) (context_at path c)) → b ≡ true → place ≡ path ++ MapT k ∷ [] → MapBelow path place k c
-map_below path place k b c p e be pe =
-    let found = found_context (MapT k) (context_at path c) tt (sym e ∙ be) in
-    let node : node_at place c ≡ Some found.0 = ap (λ (q : List Tagged). node_at q c) pe ∙ node-below path (MapT k) (context_at path c) found.0 c (there path c p) found.1 in
-    record {
-      place = λ f. let g : Some found.0 ≡ None = sym node ∙ f in cc;
-      is = found.1 ∙ ap (λ (x : Context). Some (Node x)) (sym (ap or_empty node));
-    }
-
-pub no_map_below : (path : List Tagged) (k : Key) (b : Bool) (c : Context) → b ≡ is_some (content (MapT k) (context_at path c)) → b ≡ false → content (MapT k) (context_at path c) ≡ None
-no_map_below path k b c e be = none_of (content (MapT k) (context_at path c)) (sym e ∙ be)
+-- the map under a key of the context that the path leads to
+pub map_below : (path : List Tagged) (k : Key) (c : Context) → node_at path c ≢ None → true ≡ is_some (content (MapT k) (context_at path c)) → content (MapT k) (context_at path c) ≡ Some (Node (context_at (path ++ MapT k ∷ []) c))
+map_below path k c p e =
+    let found = found_context (MapT k) (context_at path c) tt (sym e) in
+    let node : node_at (path ++ MapT k ∷ []) c ≡ Some found.0 = node-below path (MapT k) (context_at path c) found.0 c (there path c p) found.1 in
+    found.1 ∙ ap (λ (x : Context). Some (Node x)) (sym (ap or_empty node))

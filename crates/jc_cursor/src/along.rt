@@ -1,11 +1,12 @@
 //! The walk along a list to an element by its index: over as many elements at once as the store tells of, else over
 //! one. The trace is left at the depth of the last rule's premises.
 
-ghost use Rattle.std.specs.Prelude.{◌≡◌, ◌≢◌, ◌<◌, ◌≤◌, ◌*◌, ◌/◌, ◌%◌, ◌^◌, ℕ, None, Some, [], IfOk, IfErr, IfSome, OnOk};
+ghost use Rattle.std.specs.Prelude.{◌≡◌, ◌≢◌, ◌<◌, ◌≤◌, ◌*◌, ◌/◌, ◌%◌, ◌^◌, ℕ, None, Some, [], List, IfOk, IfErr, IfSome, OnOk};
 ghost use Rattle.std.specs.Int.{bit_at};
 ghost use Rattle.jc_rules.specs.declared.key.Key.TheVariants.{Head};
 ghost use Rattle.jc_rules.specs.declared.id.Id.{Id as AnyId};
 ghost use Rattle.jc_rules.specs.declared.key.Next.TheVariants.{Elem as To};
+ghost use Rattle.jc_rules.specs.declared.key.Tagged.{Tagged as AnyTagged};
 ghost use Rattle.jc_rules.specs.declared.refusal.Refusal.TheVariants as F;
 ghost use Rattle.jc_rules.specs.Context.{next as next_of};
 ghost use Rattle.jc_rules.specs.Derivation.{SelectIndex, ToCursor};
@@ -14,13 +15,13 @@ ghost use Rattle.jc_rules.specs.Refused.{Refused, because};
 ghost use Rattle.jc_rules.specs.WellFormed.{IsChained};
 ghost use Rattle.jc_rules.specs.Table.{cursor};
 ghost use Rattle.jc_rules.specs.Trace.{at_depth};
-ghost use Rattle.jc_tree.specs.Tree.{HasPlace, here};
+ghost use Rattle.jc_tree.specs.Tree.{here};
 ghost use Rattle.jc_cursor.specs.Along.{GoesOn, count_bits, gone_over, rule_of_bit};
 ghost use Rattle.jc_cursor.specs.WayDown.{IsGrown};
 ghost use Rattle.jc_cursor.specs.Evaluates.{eval_cause_of};
 
 use crate::evaluating::EvalFault;
-use jc_rules::{Id, Key, Next, Rule, Tagged, Trace};
+use jc_rules::{Id, Key, Next, Rule, Trace};
 use jc_tree::{ANYWHERE, Hint, Place, TreeStore};
 use std::alloc::AllocError;
 
@@ -101,22 +102,21 @@ fn go_over(count: usize, bits: u64, trace: &mut Trace) -> Result<usize, AllocErr
     Ok(present)
 }
 
-/// Goes over the next element of the list at the place. `place` is the store's name for the place.
+/// Goes over the next element of the list at the place.
 fn go_over_one<S: TreeStore>(
     store: &S,
     place: Place,
-    at: &[Tagged],
     walk: &Walk,
     trace: &mut Trace,
 ) -> Result<Walk, EvalFault>
-    requires there { HasPlace at.now (S.tree store.now) }
-    requires named { S.names store.now place at.now }
+    requires named { (at : List AnyTagged) × S.names store.now place at }
     requires some { 0 < walk.now.left }
-    ensures ok { IfOk result (λ w.
-        GoesOn (here at.now (S.tree store.now)) walk.now.key walk.now.left w.key w.left trace.old trace.new) }
-    ensures refused { IfErr result (λ f. IfSome (eval_cause_of f) (λ why.
+    ensures ok { (at : List AnyTagged) → S.names store.now place at → IfOk result (λ w.
+        GoesOn (here at (S.tree store.now)) walk.now.key walk.now.left w.key w.left trace.old trace.new) }
+    ensures refused { (at : List AnyTagged) → S.names store.now place at
+        → IfErr result (λ f. IfSome (eval_cause_of f) (λ why.
         (why ≡ because F.PastEnd)
-        × ((i : AnyId) → next_of walk.now.key (here at.now (S.tree store.now)) ≢ Some (To i)))) }
+        × ((i : AnyId) → next_of walk.now.key (here at (S.tree store.now)) ≢ Some (To i)))) }
     ensures grown { IsGrown trace.old trace.new }
 {
     let step = store.step_by(place, &walk.key, walk.hint);
@@ -136,27 +136,25 @@ fn go_over_one<S: TreeStore>(
     Ok(Walk { key, hint, left })
 }
 
-/// Goes over the next elements of the list at the place, one or more. `place` is the store's name for the
-/// place.
+/// Goes over the next elements of the list at the place, one or more.
 fn go_on<S: TreeStore>(
     store: &S,
     place: Place,
-    at: &[Tagged],
     walk: &Walk,
     trace: &mut Trace,
 ) -> Result<Walk, EvalFault>
-    requires there { HasPlace at.now (S.tree store.now) }
-    requires named { S.names store.now place at.now }
+    requires named { (at : List AnyTagged) × S.names store.now place at }
     requires some { 0 < walk.now.left }
-    ensures ok { IfOk result (λ w.
-        GoesOn (here at.now (S.tree store.now)) walk.now.key walk.now.left w.key w.left trace.old trace.new) }
-    ensures refused { IfErr result (λ f. IfSome (eval_cause_of f) (λ why.
+    ensures ok { (at : List AnyTagged) → S.names store.now place at → IfOk result (λ w.
+        GoesOn (here at (S.tree store.now)) walk.now.key walk.now.left w.key w.left trace.old trace.new) }
+    ensures refused { (at : List AnyTagged) → S.names store.now place at
+        → IfErr result (λ f. IfSome (eval_cause_of f) (λ why.
         (why ≡ because F.PastEnd)
-        × ((i : AnyId) → next_of walk.now.key (here at.now (S.tree store.now)) ≢ Some (To i)))) }
+        × ((i : AnyId) → next_of walk.now.key (here at (S.tree store.now)) ≢ Some (To i)))) }
     ensures grown { IsGrown trace.old trace.new }
 {
     let Some(stretch) = store.stretch_by(place, &walk.key, walk.hint, walk.left) else {
-        return go_over_one(store, place, at, walk, trace);
+        return go_over_one(store, place, walk, trace);
     };
     let present = go_over(stretch.count, stretch.bits, trace)?;
     Ok(Walk {
@@ -166,24 +164,21 @@ fn go_on<S: TreeStore>(
     })
 }
 
-/// The key of the list at the place that is `index` present elements behind its head; `place` is the
-/// store's name for the place.
+/// The key of the list at the place that is `index` present elements behind its head.
 pub fn element_at<S: TreeStore>(
     store: &S,
     place: Place,
-    at: &[Tagged],
     index: u32,
     trace: &mut Trace,
 ) -> Result<Key, EvalFault>
-    requires there { HasPlace at.now (S.tree store.now) }
-    requires named { S.names store.now place at.now }
+    requires named { (at : List AnyTagged) × S.names store.now place at }
     requires chained { IsChained (S.tree store.now).now }
-    ensures ok { IfOk result (λ k.
-        Derives (SelectIndex (here at.now (S.tree store.now)) (cursor [] Head) index) (ToCursor (cursor [] k))
+    ensures ok { (at : List AnyTagged) → S.names store.now place at → IfOk result (λ k.
+        Derives (SelectIndex (here at (S.tree store.now)) (cursor [] Head) index) (ToCursor (cursor [] k))
         trace.old (at_depth trace.old.depth trace.new)) }
-    ensures refused { IfErr result (λ f.
+    ensures refused { (at : List AnyTagged) → S.names store.now place at → IfErr result (λ f.
         IfSome (eval_cause_of f) (λ why.
-        Refused (SelectIndex (here at.now (S.tree store.now)) (cursor [] Head) index) why)) }
+        Refused (SelectIndex (here at (S.tree store.now)) (cursor [] Head) index) why)) }
     ensures grown { IsGrown trace.old trace.new }
 {
     let mut walk = Walk {
@@ -192,7 +187,7 @@ pub fn element_at<S: TreeStore>(
         left: index as usize,
     };
     while walk.left > 0 {
-        walk = go_on(store, place, at, &walk, trace)?;
+        walk = go_on(store, place, &walk, trace)?;
     }
     trace.push(Rule::Idx5)?;
     let Walk { key, .. } = walk;

@@ -1,14 +1,13 @@
 //! The selectors of expressions: what each selects from the cursor before it. The trace is left at the
 //! depth of the last rule's premises.
 
-ghost use Rattle.std.specs.Prelude.{◌≡◌, ◌≢◌, ◌↔◌, ◌<◌, ◌≤◌, [], ◌∷◌, ◌++◌, List, Some, IsTrue, IfOk, IfErr, IfSome, OnOk, length, filter_map, is_some};
+ghost use Rattle.std.specs.Prelude.{◌≡◌, ◌≢◌, ◌↔◌, ◌<◌, ◌≤◌, [], ◌∷◌, ◌++◌, List, Some, IsTrue, IfOk, IfErr, IfSome, OnOk, length, filter_map};
 ghost use Rattle.std.specs.List.{AllByRecursion};
-ghost use Rattle.jc_rules.specs.declared.id.Id.{Id as AnyId};
 ghost use Rattle.jc_rules.specs.declared.key.Key.TheVariants.{Head, Name as ToName};
-ghost use Rattle.jc_rules.specs.declared.key.Tagged.TheVariants.{MapT};
+ghost use Rattle.jc_rules.specs.declared.key.Tagged.{Tagged as AnyTagged};
 ghost use Rattle.jc_rules.specs.declared.limits.TheConstants.{MAX_PATH};
 ghost use Rattle.jc_rules.specs.declared.refusal.Refusal.TheVariants as F;
-ghost use Rattle.jc_rules.specs.Context.{Context as AnyContext, content, presence as presence_set};
+ghost use Rattle.jc_rules.specs.Context.{Context as AnyContext, presence as presence_set};
 ghost use Rattle.jc_rules.specs.Derivation.{SelectIndex, SelectKeys, SelectValues, ToCursor, ToNames, ToPairs};
 ghost use Rattle.jc_rules.specs.Derives.{Derives};
 ghost use Rattle.jc_rules.specs.Refused.{Refused, because};
@@ -17,7 +16,7 @@ ghost use Rattle.jc_rules.specs.WellFormed.{IsChained};
 ghost use Rattle.jc_rules.specs.Table.{cursor as cursor_at, name_in_presence, names_in};
 ghost use Rattle.jc_rules.specs.Trace.{Rows, at_depth};
 ghost use Rattle.jc_syntax.specs.Trees.{expr_of};
-ghost use Rattle.jc_tree.specs.Tree.{HasPlace, here};
+ghost use Rattle.jc_tree.specs.Tree.{here};
 ghost use Rattle.jc_tree.specs.Walks.{entry_of};
 ghost use Rattle.jc_rules.specs.Paths.{HasContext};
 ghost use Rattle.jc_cursor.specs.Bounds.{bound_of};
@@ -31,7 +30,7 @@ use crate::walk::{go_down, is_present};
 use jc_rules::limits::MAX_PATH;
 use jc_rules::{Cursor, Key, Names, Pairs, Path, Rule, Tagged, Text, Trace};
 use jc_syntax::Expr;
-use jc_tree::{ANYWHERE, Hint, Place, TreeStore};
+use jc_tree::{ANYWHERE, KeyAt, Place, TreeStore};
 use std::alloc::{AllocError, Global};
 
 /// The path with one key more.
@@ -100,7 +99,7 @@ fn element_below<S: TreeStore>(
     ensures grown { IsGrown trace.old trace.new }
 {
     let place = go_down(store, path, Rule::Idx2, trace)?;
-    element_at(store, place, path, index, trace)
+    element_at(store, place, index, trace)
 }
 
 /// The cursor of an element in the list at the cursor.
@@ -124,57 +123,41 @@ fn index_in<S: TreeStore>(
     Ok(Bound::Cursor(Cursor { path, last }))
 }
 
-/// The place below the tagged key.
-fn place_below(alloc: Global, at: &[Tagged], key: Tagged) -> Result<Vec<Tagged>, AllocError>
-    ensures { IfOk result (λ place. place.items ≡ at.now ++ key ∷ []) }
-{
-    let mut place = Vec::new(alloc);
-    for step in at {
-        place.push(step.copy()?)?;
-    }
-    place.push(key)?;
-    Ok(place)
-}
-
 /// Appends the key's name, if it is a name and its presence set has an identifier.
 fn push_name<S: TreeStore>(
     store: &S,
-    place: Place,
-    at: &[Tagged],
-    key: &Key,
-    hint: Hint,
+    key: KeyAt<'_>,
     names: &mut Vec<Text>,
 ) -> Result<(), AllocError>
-    requires there { HasPlace at.now (S.tree store.now) }
-    requires named { S.names store.now place at.now }
-    ensures { OnOk result (names.new.items ≡ names.old.items
-        ++ filter_map name_in_presence (entry_of key.now (presence_set key.now (here at.now (S.tree store.now))))) }
+    requires { (at : List AnyTagged) × S.names store.now key.place at }
+    ensures { (at : List AnyTagged) → S.names store.now key.entry.place at
+        → OnOk result (names.new.items ≡ names.old.items ++ filter_map name_in_presence
+        (entry_of key.entry.key.now (presence_set key.entry.key.now (here at (S.tree store.now))))) }
 {
-    if let Key::Name(name) = key
-        && is_present(store, place, at, key, hint)
+    if let Key::Name(name) = key.key
+        && is_present(store, key)
     {
         names.push(name.copy()?)?;
     }
     Ok(())
 }
 
-/// The names in the map at the place whose presence sets have an identifier. `place` is the store's
-/// name for the place.
-fn names_at<S: TreeStore>(
-    alloc: Global,
-    store: &S,
-    place: Place,
-    at: &[Tagged],
-) -> Result<Names, AllocError>
-    requires there { HasPlace at.now (S.tree store.now) }
-    requires named { S.names store.now place at.now }
-    ensures { IfOk result (λ names. names ≡ names_in (here at.now (S.tree store.now))) }
+/// The names in the map at the place whose presence sets have an identifier.
+fn names_at<S: TreeStore>(alloc: Global, store: &S, place: Place) -> Result<Names, AllocError>
+    requires { (at : List AnyTagged) × S.names store.now place at }
+    ensures { (at : List AnyTagged) → S.names store.now place at
+        → IfOk result (λ names. names ≡ names_in (here at (S.tree store.now))) }
 {
     // Each name has such a set, so the list doesn't grow.
     let mut names = Vec::with_capacity(alloc, store.count_present_at(place))?;
     let keys = store.keys_at(alloc, place)?;
     for lent in keys.as_slice() {
-        push_name(store, place, at, lent.0, lent.1, &mut names)?;
+        let key = KeyAt {
+            place,
+            key: lent.0,
+            hint: lent.1,
+        };
+        push_name(store, key, &mut names)?;
     }
     Ok(Names::new(names))
 }
@@ -195,13 +178,11 @@ fn names_below<S: TreeStore>(
 {
     let at = cursor.path.as_slice();
     let place = go_down(store, at, Rule::Keys3, trace)?;
-    let key = Tagged::MapT(cursor.last.copy()?);
-    let Some(map) = store.below(place, &key) else {
+    let Some(map) = store.map_by(place, &cursor.last, ANYWHERE) else {
         return Err(EvalFault::NoMap);
     };
     trace.push(Rule::Keys2)?;
-    let path = place_below(alloc, at, key)?;
-    Ok(names_at(alloc, store, map, path.as_slice())?)
+    Ok(names_at(alloc, store, map)?)
 }
 
 /// The values of the register at the cursor.

@@ -1,8 +1,9 @@
 //! The way down a path for the selectors, and whether a key is present. The trace is left at the depth of the
 //! last rule's premises.
 
-ghost use Rattle.std.specs.Prelude.{None, Some, IsTrue, IsFalse, IfOk, IfErr, IfSome, OnOk};
+ghost use Rattle.std.specs.Prelude.{List, None, Some, IsTrue, IsFalse, IfOk, IfErr, IfSome, OnOk};
 ghost use Rattle.std.specs.List.{AllByRecursion};
+ghost use Rattle.jc_rules.specs.declared.key.Tagged.{Tagged as AnyTagged};
 ghost use Rattle.jc_rules.specs.Context.{presence as presence_set};
 ghost use Rattle.jc_rules.specs.Table.{IsEmptyIds};
 ghost use Rattle.jc_tree.specs.Tree.{HasPlace, here};
@@ -11,8 +12,8 @@ ghost use Rattle.jc_cursor.specs.WayDown.{IsGrown, LeadsDown, RefusesDown, Refus
 ghost use Rattle.jc_cursor.specs.Evaluates.{eval_cause_of};
 
 use crate::evaluating::EvalFault;
-use jc_rules::{Key, Rule, Tagged, Trace};
-use jc_tree::{Hint, Place, TreeStore};
+use jc_rules::{Rule, Tagged, Trace};
+use jc_tree::{KeyAt, Place, TreeStore};
 
 /// Goes down the path, by the rule for each key. Returns the store's name for the place at its end.
 pub fn go_down<S: TreeStore>(
@@ -41,21 +42,15 @@ pub fn go_down<S: TreeStore>(
     Ok(place)
 }
 
-/// Whether the key's presence set has an identifier. `place` is the store's name for the place, `hint` is
-/// where to look first for the key.
-pub fn is_present<S: TreeStore>(
-    store: &S,
-    place: Place,
-    at: &[Tagged],
-    key: &Key,
-    hint: Hint,
-) -> bool
-    requires there { HasPlace at.now (S.tree store.now) }
-    requires named { S.names store.now place at.now }
-    ensures present { IsTrue result → IsEmptyIds (presence_set key.now (here at.now (S.tree store.now))) → ⊥ }
-    ensures absent { IsFalse result → IsEmptyIds (presence_set key.now (here at.now (S.tree store.now))) }
+/// Whether the key's presence set has an identifier.
+pub fn is_present<S: TreeStore>(store: &S, key: KeyAt<'_>) -> bool
+    requires { (at : List AnyTagged) × S.names store.now key.place at }
+    ensures present { (at : List AnyTagged) → S.names store.now key.entry.place at → IsTrue result
+        → IsEmptyIds (presence_set key.entry.key.now (here at (S.tree store.now))) → ⊥ }
+    ensures absent { (at : List AnyTagged) → S.names store.now key.entry.place at → IsFalse result
+        → IsEmptyIds (presence_set key.entry.key.now (here at (S.tree store.now))) }
 {
-    match store.presence_by(place, key, hint) {
+    match store.presence_by(key.place, key.key, key.hint) {
         Some(ids) => !ids.is_empty(),
         None => false,
     }

@@ -37,9 +37,6 @@ rule_named d t rule is = (
       subst (λ (r : List (Rule × ℕ)). HasRule r rule) (one_makes (start_of d) d.schedule is.before x.1 is.event x.2 t makes is.makes).1 x.5,
 )
 
-pub no_rule_at_start : (d : Seen) (rule : Rule) → length d.traces ≡ 0 → Names (start_of d) d.schedule (Kind.Rule rule) (length d.traces) → ⊥
-no_rule_at_start d rule z x = let q = x.3 in absurd (omega (arith, q, z))
-
 -- a row of the first or of the others
 has_front : (xs ys : List (Rule × ℕ)) (rule : Rule) → HasRule xs rule → HasRule (xs ++ ys) rule
 has_front [] ys rule (k, depth, e) = cc

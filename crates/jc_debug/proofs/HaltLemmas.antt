@@ -37,10 +37,6 @@ halted old now new n to (H.Stuck s) m le lt told e = (n, stops_at old now new n 
 
 -- ---- the refusals of the calls
 
-pub move_halted : (refusal : Refusal) (old new : Seen) (to : ℕ) (halt : Halt) (fault : DebugFault) → fault ≡ halt_fault halt → IsHalted old new to halt → IsMoveFault refusal old new to fault
-move_halted refusal old new to (H.Stuck s) fault e h = subst (λ (f : DebugFault). IsMoveFault refusal old new to f) (sym e) h
-move_halted refusal old new to (H.Memory at) fault e h = subst (λ (f : DebugFault). IsMoveFault refusal old new to f) (sym e) (at, h)
-
 pub never_refused : (halt : Halt) (refusal : Refusal) → halt_fault halt ≡ D.Refused refusal → ⊥
 never_refused (H.Stuck s) refusal e = cc
 never_refused (H.Memory at) refusal e = cc

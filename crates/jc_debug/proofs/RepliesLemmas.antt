@@ -24,9 +24,6 @@ begun_at d s h =
 pub moved_session : (d e : Seen) (n : ℕ) → IsMoved d e n → session_of e ≡ moved_to (session_of d) n
 moved_session d e n m = λ i. record { schedule = m.schedule i; position = m.position i; breaks = m.breaks i }
 
-pub placed_session : (d : Seen) (j : ℕ) (b : Option Break) → session_of (placed_in d j b) ≡ with_break (session_of d) j b
-placed_session d j b = refl
-
 -- a move that arrived
 pub arrived : (d e : Seen) (to : ℕ) → IsDebugger e → IsMoved d e to → GoesTo (start_of d) d.schedule (length d.traces) to to None
 arrived d e to h m = arrives (at_old d e to m h)

@@ -14,10 +14,6 @@ absent_none : (names : List (List ℕ)) (why : Cause) → key_of_event why ≡ N
 absent_none names (because r) e = refl
 absent_none names (no_node k) e = cc
 
-absent_some : (names : List (List ℕ)) (why : Cause) (k : Tagged) → key_of_event why ≡ Some k → absent_text names why ≡ tagged_text names k ++ codes " "
-absent_some names (because r) k e = cc
-absent_some names (no_node j) k e = let same : j ≡ k = cc in ap (λ t. tagged_text names t ++ codes " ") same
-
 -- the words before the key
 abbrev front : ℕ → List ℕ → List ℕ
 front number cause = codes "stuck " ++ decimal number ++ codes " " ++ cause ++ codes " "
@@ -38,14 +34,3 @@ module _ (names : List (List ℕ)) (s : Stuck) (why : Cause) (event : Event) (is
       ∙ ap (λ t. front (refusal_number (refusal_of why)) (refusal_name (refusal_of why)) ++ t ++ codes "\n") (t ∙ event_is)
       ∙ ap (λ f. f ++ canon_event names event ++ codes "\n") (sym (append-nil (front (refusal_number (refusal_of why)) (refusal_name (refusal_of why)))))
       ∙ ap (λ k. front (refusal_number (refusal_of why)) (refusal_name (refusal_of why)) ++ k ++ canon_event names event ++ codes "\n") (sym (absent_none names why (sym (ap (λ (x : Stuck). x.key) is) ∙ none)))
-
-  -- with one
-  pub line_with : (n : ℕ) (k : Tagged) (cause key text shown : List ℕ) → s.key ≡ Some k → n ≡ refusal_number s.refusal → cause ≡ refusal_name s.refusal → key ≡ tagged_text names k → text ≡ canon_event names s.event → shown ≡ codes "stuck " ++ decimal n ++ codes " " ++ cause ++ codes " " ++ key ++ codes " " ++ text ++ codes "\n" → shown ≡ stuck_text names why event
-  line_with n k cause key text shown some num name kt t line =
-      line
-      ∙ ap (λ m. front m cause ++ key ++ codes " " ++ text ++ codes "\n") (num ∙ ap refusal_number refusal_is)
-      ∙ ap (λ c. front (refusal_number (refusal_of why)) c ++ key ++ codes " " ++ text ++ codes "\n") (name ∙ ap refusal_name refusal_is)
-      ∙ ap (λ t. front (refusal_number (refusal_of why)) (refusal_name (refusal_of why)) ++ key ++ codes " " ++ t ++ codes "\n") (t ∙ event_is)
-      ∙ ap (λ x. front (refusal_number (refusal_of why)) (refusal_name (refusal_of why)) ++ x ++ codes " " ++ canon_event names event ++ codes "\n") kt
-      ∙ ap (λ x. x ++ canon_event names event ++ codes "\n") (append_assoc (front (refusal_number (refusal_of why)) (refusal_name (refusal_of why))) (tagged_text names k) (codes " "))
-      ∙ ap (λ x. front (refusal_number (refusal_of why)) (refusal_name (refusal_of why)) ++ x ++ canon_event names event ++ codes "\n") (sym (absent_some names why k (sym (ap (λ (x : Stuck). x.key) is) ∙ some)))

@@ -60,12 +60,6 @@ pub other_digits : (old new last : ℕ) → old < 2 ^ 64 → new < 2 ^ 64 → ol
 other_digits old new last before after near digits =
     digits ∙ (sym (high_length old before) ∙ (ap (λ q. length (high q) + 1) near ∙ high_length new after))
 
--- the last digit is within the line
-pub digit_within : (rule : Rule) (n last : ℕ) (bytes : List ℕ) → last + 1 ≡ length (decimal n) → bytes ≡ row_text (rule, n) → last < length bytes
-digit_within rule n last bytes digits is =
-    let all : length bytes ≡ length (decimal n) + length (rest rule) = ap length (is ∙ row_split rule n) ∙ length-append (decimal n) (rest rule) in
-    omega (arith, all, digits)
-
 -- ---- texts
 
 one_utf8 : (b : ℕ) → b < 128 → IsUtf8 (b ∷ [])

@@ -10,7 +10,7 @@ use Rattle.jc_rules.specs.Order.{id_cmp, key_cmp, same_id}
 use Rattle.jc_rules.specs.Entries.{find}
 use Rattle.jc_rules.specs.Ids.{AreRising}
 use Rattle.jc_rules.specs.Context.{Context, Register, Content, Node, Values, content, presence, registers}
-use Rattle.jc_rules.specs.ContextsAt.{node_at, node_in}
+use Rattle.jc_rules.specs.ContextsAt.{node_at, node_in, or_empty}
 use Rattle.jc_rules.specs.Paths.{HasContext}
 use Rattle.jc_rules.specs.WellFormed.{IsWellFormedContext, IsWellFormedRegister}
 use Rattle.jc_rules.proofs.ContextsAtLemmas.{there}
@@ -187,12 +187,8 @@ none_below (t ∷ ts) u c h = go (content t c) refl h (λ b e. none_below ts u b
     go (Some (Values r)) g e ih = rw g refl
     go (Some (Node b)) g e ih = rw g (ih b (rw g at e))
 
-pub named_below : (names : Place → List Tagged → Type 0) (t : Tree) (at : List Tagged) (u : Tagged) (o : Option Place) → HasPlace at t → is_some o ≡ is_some (node_in (content u (here at t))) → ((p : Place) → o ≡ Some p → names p (at ++ u ∷ [])) → IsNameOf names t (at ++ u ∷ []) o
-named_below names t at u (Some p) h e n = (λ f. go (node_in (content u (here at t))) (sym (child_at at u t.now (here at t) (content u (here at t)) (there at t.now h) refl) ∙ f) e, n p refl)
-  where
-    go : (x : Option Context) → x ≡ None → true ≡ is_some x → ⊥
-    go None f g = no_truth (sym g)
-    go (Some d) f g = cc
+pub named_below : (names : Place → List Tagged → Type 0) (t : Tree) (at : List Tagged) (u : Tagged) (o : Option Place) → HasPlace at t → is_some o ≡ is_some (node_in (content u (here at t))) → IfSome o (λ p. names p (at ++ u ∷ [])) → IsNameOf names t (at ++ u ∷ []) o
+named_below names t at u (Some p) h e n = n
 named_below names t at u None h e n = child_at at u t.now (here at t) (content u (here at t)) (there at t.now h) refl ∙ go (node_in (content u (here at t))) e
   where
     go : (x : Option Context) → false ≡ is_some x → x ≡ None
@@ -222,6 +218,15 @@ smaller_below at u t h = go (node_at at t.now) refl
         let p : HasPlace at t = some_place at t.now d e in
         inside (content u (here at t)) refl p (child_at at u t.now (here at t) (content u (here at t)) (there at t.now p) refl)
 
+-- the number of contexts below the one that is named, if one is
+abbrev pub nested_at : (Place → List Tagged) → Tree → Option Place → ℕ
+nested_at path t None = 0
+nested_at path t (Some p) = nested (here (path p) t)
+
+pub named_nested : (names : Place → List Tagged → Type 0) (path : Place → List Tagged) (t : Tree) (at : List Tagged) (o : Option Place) → ((p : Place) (ps : List Tagged) → names p ps → path p ≡ ps) → IsNameOf names t at o → nested_at path t o ≡ nested (here at t)
+named_nested names path t at (Some p) one n = ap (λ (ps : List Tagged). nested (here ps t)) (one p at n)
+named_nested names path t at None one n = sym (ap (λ (o : Option Context). nested (or_empty o)) n)
+
 pub copied_some : {X : Type 0} (o : Option (Bor X)) → is_some o ≡ is_some (option_copied o)
 copied_some None = refl
 copied_some (Some b) = refl
@@ -242,7 +247,3 @@ entry_found k v (x ∷ xs) (suc n) e = go (same_id k x.0) (entry_found k v xs n 
 pub place_tells : (k : Id) (es : Register) (r : Result ℕ ℕ) → IsEntryPlace id_cmp k es r → is_ok r ≡ is_some (find id_cmp k es)
 place_tells k es (Ok i) h = sym (entry_found k h.value es i h.entry)
 place_tells k es (Err i) h = sym (ap is_some (find-absent ids_total exact_ids k es i h))
-
-pub some_at : {X : Type 0} (o : Option X) (P : X → Type 0) → IfSome o P → (x : X) → o ≡ Some x → P x
-some_at None P h x e = cc
-some_at (Some y) P h x e = let same : y ≡ x = cc in subst P same h

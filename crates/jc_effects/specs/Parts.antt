@@ -22,7 +22,7 @@ use Rattle.jc_rules.specs.ContextsAt.{node_at}
 use Rattle.jc_rules.specs.Table.{is_done}
 use Rattle.jc_rules.specs.WellFormed.{IsWellFormedRegister}
 use Rattle.jc_tree.specs.declared.store.Place.{Place}
-use Rattle.jc_tree.specs.Tree.{Tree, HasPlace, or_no_entries, has_ids}
+use Rattle.jc_tree.specs.Tree.{Tree, or_no_entries, has_ids}
 use Rattle.jc_json.specs.Json.{key_text}
 use Rattle.jc_meaning.specs.Seen.{seen, ids_at, reg_at, value_seen_at, has_tag}
 use Rattle.jc_meaning.specs.Forest.{follow}
@@ -67,7 +67,7 @@ or_nothing (Some x) = differences_of x.now
 
 -- The path leads to the context that the store names so; or it leads to no context.
 abbrev pub IsNameOf : (Place → List Tagged → Type 0) → Tree → List Tagged → Option Place → Type 0
-IsNameOf names t at (Some p) = HasPlace at t × names p at
+IsNameOf names t at (Some p) = names p at
 IsNameOf names t at None = node_at at t.now ≡ None
 
 -- These are the entries at the key of what is seen.

@@ -1,6 +1,6 @@
 //! The places that differ by an operation: along its path, at its target and below it.
 
-ghost use Rattle.std.specs.Prelude.{◌≡◌, ◌≢◌, ◌≤◌, ◌++◌, ◌∷◌, [], List, cond, length, take, true, false, Some, None, IfOk, OnOk};
+ghost use Rattle.std.specs.Prelude.{◌≡◌, ◌≢◌, ◌≤◌, ◌++◌, ◌∷◌, [], List, cond, length, take, true, false, Some, None, IfOk};
 ghost use Rattle.std.specs.declared.cmp.Ordering.TheVariants.{Less};
 ghost use Rattle.jc_rules.specs.declared.id.Id.{Id as AnyId};
 ghost use Rattle.jc_rules.specs.declared.key.Key.{Key as AnyKey};
@@ -21,7 +21,7 @@ use crate::own::{
     Candidates, NO_TAGS, OwnEffects, Tags, ids_without, link_changed, own_between, shown_between,
 };
 use jc_rules::{Id, Key, Mutation, Next, Op, Tagged, Value, compare_ids, compare_keys};
-use jc_tree::{ANYWHERE, Place, TreeStore};
+use jc_tree::{ANYWHERE, TreeStore};
 use std::alloc::{AllocError, Global};
 
 fn is_delete(mutation: &Mutation) -> bool
@@ -77,24 +77,25 @@ fn tag_made(tagged: &Tagged, was: bool) -> Tags
 fn own_on_path<S: TreeStore>(
     change: &Change<'_, S>,
     contexts: Contexts,
-    at: &[Tagged],
     tagged: &Tagged,
 ) -> Result<OwnEffects, AllocError>
     requires changed { IsChangedBy change.now.op.now (S.tree change.now.old.now).now (S.tree change.now.new.now).now }
-    requires contexts { AreContexts (S.names change.now.old.now) (S.names change.now.new.now)
-        (S.tree change.now.old.now) (S.tree change.now.new.now) at.now contexts }
-    requires path { (rest : List AnyTagged) × (change.now.op.now.cursor.path ≡ at.now ++ tagged.now ∷ rest) }
-    ensures { IfOk result (λ own. own_seen (key_of_tagged tagged.now) own ≡ own_difference (key_of_tagged tagged.now)
-        (seen at.now (S.tree change.now.old.now).now) (seen at.now (S.tree change.now.new.now).now)) }
+    requires contexts { (at : List AnyTagged) × AreContexts (S.names change.now.old.now) (S.names change.now.new.now)
+        (S.tree change.now.old.now) (S.tree change.now.new.now) at contexts }
+    ensures { (at rest : List AnyTagged) → AreContexts (S.names change.now.old.now) (S.names change.now.new.now)
+        (S.tree change.now.old.now) (S.tree change.now.new.now) at contexts
+        → change.now.op.now.cursor.path ≡ at ++ tagged.now ∷ rest
+        → IfOk result (λ own. own_seen (key_of_tagged tagged.now) own ≡ own_difference (key_of_tagged tagged.now)
+        (seen at (S.tree change.now.old.now).now) (seen at (S.tree change.now.new.now).now)) }
 {
-    let was = ids_in(change.old, contexts.old, at, tagged.key(), ANYWHERE);
-    let now = ids_in(change.new, contexts.new, at, tagged.key(), ANYWHERE);
+    let was = ids_in(change.old, contexts.old, tagged.key(), ANYWHERE);
+    let now = ids_in(change.new, contexts.new, tagged.key(), ANYWHERE);
     let id = [change.op.id];
     let came = ids_if(!is_delete(&change.op.mutation), &id);
     Ok(OwnEffects {
         gained: ids_without(change.alloc, came, was)?,
         lost: Vec::new(change.alloc),
-        made: tag_made(tagged, has_tag_in(change.old, contexts.old, at, tagged)),
+        made: tag_made(tagged, has_tag_in(change.old, contexts.old, tagged)),
         next: None,
         shown: shown_between(was, now),
         taken: Vec::new(change.alloc),
@@ -106,19 +107,19 @@ fn own_on_path<S: TreeStore>(
 fn own_at_target<S: TreeStore>(
     change: &Change<'_, S>,
     contexts: Contexts,
-    at: &[Tagged],
     key: &Key,
 ) -> Result<OwnEffects, AllocError>
     requires changed { IsChangedBy change.now.op.now (S.tree change.now.old.now).now (S.tree change.now.new.now).now }
     requires contexts { AreContexts (S.names change.now.old.now) (S.names change.now.new.now)
-        (S.tree change.now.old.now) (S.tree change.now.new.now) at.now contexts }
-    requires path { at.now ≡ change.now.op.now.cursor.path }
+        (S.tree change.now.old.now) (S.tree change.now.new.now) change.now.op.now.cursor.path contexts }
     requires target { key.now ≡ target change.now.op.now }
     ensures { IfOk result (λ own. own_seen key.now own ≡ own_difference key.now
-        (seen at.now (S.tree change.now.old.now).now) (seen at.now (S.tree change.now.new.now).now)) }
+        (seen change.now.op.now.cursor.path (S.tree change.now.old.now).now)
+        (seen change.now.op.now.cursor.path (S.tree change.now.new.now).now)) }
 {
-    let was = entries_at(change.old, contexts.old, at, key);
-    let now = entries_at(change.new, contexts.new, at, key);
+    let path = change.op.cursor.path.as_slice();
+    let was = entries_at(change.old, contexts.old, path, key);
+    let now = entries_at(change.new, contexts.new, path, key);
     let id = [change.op.id];
     let candidates = Candidates {
         gained: ids_if(!is_delete(&change.op.mutation), &id),
@@ -154,35 +155,21 @@ fn own_linked<S: TreeStore>(change: &Change<'_, S>, contexts: Contexts, key: &Ke
     }
 }
 
-/// A copy of the path.
-fn copy_path(alloc: Global, path: &[Tagged]) -> Result<Vec<Tagged>, AllocError>
-    ensures { IfOk result (λ copy. copy.items ≡ path.now) }
-{
-    let mut copy = Vec::new(alloc);
-    for tagged in path {
-        copy.push(tagged.copy()?)?;
-    }
-    Ok(copy)
-}
-
 /// The places that differ in the target's map or list, which are those that were cleared.
 fn child_cleared<S: TreeStore>(
     change: &Change<'_, S>,
     contexts: Contexts,
-    at: &mut Vec<Tagged>,
-    tagged: Tagged,
+    tagged: &Tagged,
 ) -> Result<Effects, AllocError>
     requires changed { IsChangedBy change.now.op.now (S.tree change.now.old.now).now (S.tree change.now.new.now).now }
     requires contexts { AreContexts (S.names change.now.old.now) (S.names change.now.new.now)
-        (S.tree change.now.old.now) (S.tree change.now.new.now) at.old.items contexts }
-    requires path { at.old.items ≡ change.now.op.now.cursor.path }
-    ensures difference { IfOk result (λ effects. IsDifference
-        (below tagged (seen at.old.items (S.tree change.now.old.now).now))
-        (below tagged (seen at.old.items (S.tree change.now.new.now).now)) (differences_of effects)) }
-    ensures path { OnOk result (at.new.items ≡ at.old.items) }
+        (S.tree change.now.old.now) (S.tree change.now.new.now) change.now.op.now.cursor.path contexts }
+    ensures { IfOk result (λ effects. IsDifference
+        (below tagged.now (seen change.now.op.now.cursor.path (S.tree change.now.old.now).now))
+        (below tagged.now (seen change.now.op.now.cursor.path (S.tree change.now.new.now).now)) (differences_of effects)) }
 {
     if is_clearing(&change.op.mutation) {
-        child_below(change, contexts, at, tagged)
+        child_below(change, contexts, tagged)
     } else {
         Ok(Effects::Nothing)
     }
@@ -192,24 +179,22 @@ fn child_cleared<S: TreeStore>(
 fn place_at_target<S: TreeStore>(
     change: &Change<'_, S>,
     contexts: Contexts,
-    at: &mut Vec<Tagged>,
     key: &Key,
     rest: Effects,
 ) -> Result<Effects, AllocError>
     requires changed { IsChangedBy change.now.op.now (S.tree change.now.old.now).now (S.tree change.now.new.now).now }
     requires contexts { AreContexts (S.names change.now.old.now) (S.names change.now.new.now)
-        (S.tree change.now.old.now) (S.tree change.now.new.now) at.old.items contexts }
-    requires path { at.old.items ≡ change.now.op.now.cursor.path }
+        (S.tree change.now.old.now) (S.tree change.now.new.now) change.now.op.now.cursor.path contexts }
     requires target { key.now ≡ target change.now.op.now }
     ensures { IfOk result (λ effects. (ks : List AnyKey) → AreLater key.now ks
-        → IsDifferenceAmong ks (seen at.old.items (S.tree change.now.old.now).now)
-        (seen at.old.items (S.tree change.now.new.now).now) (differences_of rest)
-        → IsDifferenceAmong (key.now ∷ ks) (seen at.old.items (S.tree change.now.old.now).now)
-        (seen at.old.items (S.tree change.now.new.now).now) (differences_of effects)) }
+        → IsDifferenceAmong ks (seen change.now.op.now.cursor.path (S.tree change.now.old.now).now)
+        (seen change.now.op.now.cursor.path (S.tree change.now.new.now).now) (differences_of rest)
+        → IsDifferenceAmong (key.now ∷ ks) (seen change.now.op.now.cursor.path (S.tree change.now.old.now).now)
+        (seen change.now.op.now.cursor.path (S.tree change.now.new.now).now) (differences_of effects)) }
 {
-    let list = child_cleared(change, contexts, at, Tagged::ListT(key.copy()?))?;
-    let map = child_cleared(change, contexts, at, Tagged::MapT(key.copy()?))?;
-    let own = own_at_target(change, contexts, at.as_slice(), key)?;
+    let list = child_cleared(change, contexts, &Tagged::ListT(key.copy()?))?;
+    let map = child_cleared(change, contexts, &Tagged::MapT(key.copy()?))?;
+    let own = own_at_target(change, contexts, key)?;
     with_place(change.alloc, key, own, map, list, rest)
 }
 
@@ -275,24 +260,22 @@ fn place_of_link<S: TreeStore>(
 fn places_of_insert<S: TreeStore>(
     change: &Change<'_, S>,
     contexts: Contexts,
-    at: &mut Vec<Tagged>,
 ) -> Result<Effects, AllocError>
     requires changed { IsChangedBy change.now.op.now (S.tree change.now.old.now).now (S.tree change.now.new.now).now }
     requires contexts { AreContexts (S.names change.now.old.now) (S.names change.now.new.now)
-        (S.tree change.now.old.now) (S.tree change.now.new.now) at.old.items contexts }
-    requires path { at.old.items ≡ change.now.op.now.cursor.path }
+        (S.tree change.now.old.now) (S.tree change.now.new.now) change.now.op.now.cursor.path contexts }
     requires inserts { is_insertion change.now.op.now.mutation ≡ true }
-    ensures { IfOk result (λ effects. IsDifference (seen at.old.items (S.tree change.now.old.now).now)
-        (seen at.old.items (S.tree change.now.new.now).now) (differences_of effects)) }
+    ensures { IfOk result (λ effects. IsDifference (seen change.now.op.now.cursor.path (S.tree change.now.old.now).now)
+        (seen change.now.op.now.cursor.path (S.tree change.now.new.now).now) (differences_of effects)) }
 {
     let element = Key::Elem(change.op.id);
     let before = key_before(change, contexts)?;
     if compare_keys(&before, &element).is_lt() {
-        let rest = place_at_target(change, contexts, at, &element, Effects::Nothing)?;
+        let rest = place_at_target(change, contexts, &element, Effects::Nothing)?;
         place_of_link(change, contexts, &before, rest)
     } else {
         let rest = place_of_link(change, contexts, &before, Effects::Nothing)?;
-        place_at_target(change, contexts, at, &element, rest)
+        place_at_target(change, contexts, &element, rest)
     }
 }
 
@@ -309,12 +292,10 @@ fn places_at_target<S: TreeStore>(
         (seen change.now.op.now.cursor.path (S.tree change.now.new.now).now) (differences_of effects)) }
 {
     let op = change.op;
-    let mut at = copy_path(change.alloc, op.cursor.path.as_slice())?;
     if is_insert(&op.mutation) {
-        places_of_insert(change, contexts, &mut at)
+        places_of_insert(change, contexts)
     } else {
-        let rest = Effects::Nothing;
-        place_at_target(change, contexts, &mut at, &op.cursor.last, rest)
+        place_at_target(change, contexts, &op.cursor.last, Effects::Nothing)
     }
 }
 
@@ -322,20 +303,21 @@ fn places_at_target<S: TreeStore>(
 fn place_on_path<S: TreeStore>(
     change: &Change<'_, S>,
     contexts: Contexts,
-    at: &[Tagged],
     tagged: &Tagged,
     inside: Effects,
 ) -> Result<Effects, AllocError>
     requires changed { IsChangedBy change.now.op.now (S.tree change.now.old.now).now (S.tree change.now.new.now).now }
-    requires contexts { AreContexts (S.names change.now.old.now) (S.names change.now.new.now)
-        (S.tree change.now.old.now) (S.tree change.now.new.now) at.now contexts }
-    requires path { (rest : List AnyTagged) × (change.now.op.now.cursor.path ≡ at.now ++ tagged.now ∷ rest) }
-    requires inside { IsDifference (below tagged.now (seen at.now (S.tree change.now.old.now).now))
-        (below tagged.now (seen at.now (S.tree change.now.new.now).now)) (differences_of inside) }
-    ensures { IfOk result (λ effects. IsDifference (seen at.now (S.tree change.now.old.now).now)
-        (seen at.now (S.tree change.now.new.now).now) (differences_of effects)) }
+    requires contexts { (at : List AnyTagged) × AreContexts (S.names change.now.old.now) (S.names change.now.new.now)
+        (S.tree change.now.old.now) (S.tree change.now.new.now) at contexts }
+    ensures { (at rest : List AnyTagged) → AreContexts (S.names change.now.old.now) (S.names change.now.new.now)
+        (S.tree change.now.old.now) (S.tree change.now.new.now) at contexts
+        → change.now.op.now.cursor.path ≡ at ++ tagged.now ∷ rest
+        → IsDifference (below tagged.now (seen at (S.tree change.now.old.now).now))
+        (below tagged.now (seen at (S.tree change.now.new.now).now)) (differences_of inside)
+        → IfOk result (λ effects. IsDifference (seen at (S.tree change.now.old.now).now)
+        (seen at (S.tree change.now.new.now).now) (differences_of effects)) }
 {
-    let own = own_on_path(change, contexts, at, tagged)?;
+    let own = own_on_path(change, contexts, tagged)?;
     let none = Effects::Nothing;
     match tagged {
         Tagged::MapT(key) => with_place(change.alloc, key, own, inside, none, Effects::Nothing),
@@ -369,11 +351,10 @@ fn places_along<S: TreeStore>(
     if depth == path.len() {
         return places_at_target(change, contexts);
     }
-    let at = &path[..depth];
     let tagged = &path[depth];
-    let inside = contexts_below(change, contexts, at, tagged);
+    let inside = contexts_below(change, contexts, tagged);
     let effects = places_along(change, inside, depth + 1)?;
-    place_on_path(change, contexts, at, tagged, effects)
+    place_on_path(change, contexts, tagged, effects)
 }
 
 /// All places at which the tree `new` differs from `old`, where the operation led from the one to the other. It looks

@@ -1,7 +1,8 @@
 //! The places that differ in a context in which nothing but losses can be, however deep.
 
-ghost use Rattle.std.specs.Prelude.{◌≡◌, ◌++◌, ◌∷◌, [], List, Some, IfOk, OnOk};
+ghost use Rattle.std.specs.Prelude.{◌≡◌, ◌++◌, ◌∷◌, [], List, Some, IfOk};
 ghost use Rattle.jc_rules.specs.declared.key.Key.{Key as AnyKey};
+ghost use Rattle.jc_rules.specs.declared.key.Tagged.{Tagged as AnyTagged};
 ghost use Rattle.jc_meaning.specs.Seen.{seen};
 ghost use Rattle.jc_effects.specs.Difference.{below, own_difference, IsDifference};
 ghost use Rattle.jc_effects.specs.Parts.{AreContexts, OnlyLoses, OnlyLosesAt, AreLater, IsDifferenceAmong, own_seen, differences_of};
@@ -33,17 +34,18 @@ pub(crate) struct Contexts {
 pub(crate) fn contexts_below<S: TreeStore>(
     change: &Change<'_, S>,
     contexts: Contexts,
-    at: &[Tagged],
     tagged: &Tagged,
 ) -> Contexts
-    requires { AreContexts (S.names change.now.old.now) (S.names change.now.new.now)
-        (S.tree change.now.old.now) (S.tree change.now.new.now) at.now contexts }
-    ensures { AreContexts (S.names change.now.old.now) (S.names change.now.new.now)
-        (S.tree change.now.old.now) (S.tree change.now.new.now) (at.now ++ tagged.now ∷ []) result }
+    requires { (at : List AnyTagged) × AreContexts (S.names change.now.old.now) (S.names change.now.new.now)
+        (S.tree change.now.old.now) (S.tree change.now.new.now) at contexts }
+    ensures { (at : List AnyTagged) → AreContexts (S.names change.now.old.now) (S.names change.now.new.now)
+        (S.tree change.now.old.now) (S.tree change.now.new.now) at contexts
+        → AreContexts (S.names change.now.old.now) (S.names change.now.new.now)
+        (S.tree change.now.old.now) (S.tree change.now.new.now) (at ++ tagged.now ∷ []) result }
 {
     Contexts {
-        old: name_below(change.old, contexts.old, at, tagged),
-        new: name_below(change.new, contexts.new, at, tagged),
+        old: name_below(change.old, contexts.old, tagged),
+        new: name_below(change.new, contexts.new, tagged),
     }
 }
 
@@ -51,21 +53,21 @@ pub(crate) fn contexts_below<S: TreeStore>(
 fn own_lost<S: TreeStore>(
     change: &Change<'_, S>,
     contexts: Contexts,
-    at: &[Tagged],
     key: &Key,
     hint: Hint,
 ) -> Result<OwnEffects, AllocError>
-    requires contexts { AreContexts (S.names change.now.old.now) (S.names change.now.new.now)
-        (S.tree change.now.old.now) (S.tree change.now.new.now) at.now contexts }
-    requires losses { OnlyLosesAt key.now (seen at.now (S.tree change.now.old.now).now)
-        (seen at.now (S.tree change.now.new.now).now) }
-    ensures { IfOk result (λ own. own_seen key.now own ≡ own_difference key.now
-        (seen at.now (S.tree change.now.old.now).now) (seen at.now (S.tree change.now.new.now).now)) }
+    requires { (at : List AnyTagged) × AreContexts (S.names change.now.old.now) (S.names change.now.new.now)
+        (S.tree change.now.old.now) (S.tree change.now.new.now) at contexts }
+    ensures { (at : List AnyTagged) → AreContexts (S.names change.now.old.now) (S.names change.now.new.now)
+        (S.tree change.now.old.now) (S.tree change.now.new.now) at contexts
+        → OnlyLosesAt key.now (seen at (S.tree change.now.old.now).now) (seen at (S.tree change.now.new.now).now)
+        → IfOk result (λ own. own_seen key.now own ≡ own_difference key.now
+        (seen at (S.tree change.now.old.now).now) (seen at (S.tree change.now.new.now).now)) }
 {
-    let was = ids_in(change.old, contexts.old, at, key, hint);
-    let now = ids_in(change.new, contexts.new, at, key, hint);
-    let had = pairs_in(change.old, contexts.old, at, key, hint);
-    let has = pairs_in(change.new, contexts.new, at, key, hint);
+    let was = ids_in(change.old, contexts.old, key, hint);
+    let now = ids_in(change.new, contexts.new, key, hint);
+    let had = pairs_in(change.old, contexts.old, key, hint);
+    let has = pairs_in(change.new, contexts.new, key, hint);
     Ok(OwnEffects {
         gained: Vec::new(change.alloc),
         lost: ids_without(change.alloc, was, now)?,
@@ -77,33 +79,27 @@ fn own_lost<S: TreeStore>(
     })
 }
 
-/// The places that differ in the map or the list under the tagged key. At the end `at` is as it was, unless memory ran
-/// out.
+/// The places that differ in the map or the list under the tagged key.
 #[cycle(below)]
 pub(crate) fn child_below<S: TreeStore>(
     change: &Change<'_, S>,
     contexts: Contexts,
-    at: &mut Vec<Tagged>,
-    tagged: Tagged,
+    tagged: &Tagged,
 ) -> Result<Effects, AllocError>
-    requires contexts { AreContexts (S.names change.now.old.now) (S.names change.now.new.now)
-        (S.tree change.now.old.now) (S.tree change.now.new.now) at.old.items contexts }
-    requires losses { OnlyLoses (below tagged (seen at.old.items (S.tree change.now.old.now).now))
-        (below tagged (seen at.old.items (S.tree change.now.new.now).now)) }
-    ensures difference { IfOk result (λ effects. IsDifference
-        (below tagged (seen at.old.items (S.tree change.now.old.now).now))
-        (below tagged (seen at.old.items (S.tree change.now.new.now).now)) (differences_of effects)) }
-    ensures path { OnOk result (at.new.items ≡ at.old.items) }
+    requires { (at : List AnyTagged) × AreContexts (S.names change.now.old.now) (S.names change.now.new.now)
+        (S.tree change.now.old.now) (S.tree change.now.new.now) at contexts }
+    ensures { (at : List AnyTagged) → AreContexts (S.names change.now.old.now) (S.names change.now.new.now)
+        (S.tree change.now.old.now) (S.tree change.now.new.now) at contexts
+        → OnlyLoses (below tagged.now (seen at (S.tree change.now.old.now).now))
+        (below tagged.now (seen at (S.tree change.now.new.now).now))
+        → IfOk result (λ effects. IsDifference (below tagged.now (seen at (S.tree change.now.old.now).now))
+        (below tagged.now (seen at (S.tree change.now.new.now).now)) (differences_of effects)) }
 {
-    let inside = contexts_below(change, contexts, at.as_slice(), &tagged);
+    let inside = contexts_below(change, contexts, tagged);
     let Some(place) = inside.old else {
         return Ok(Effects::Nothing);
     };
-    let depth = at.len();
-    at.push(tagged)?;
-    let effects = places_below(change, place, inside, at)?;
-    at.truncate(depth);
-    Ok(effects)
+    places_below(change, place, inside)
 }
 
 /// With the key's place in front of the others, if something differs there. All other keys that differ are greater.
@@ -112,58 +108,55 @@ pub(crate) fn child_below<S: TreeStore>(
 fn place_below<S: TreeStore>(
     change: &Change<'_, S>,
     contexts: Contexts,
-    at: &mut Vec<Tagged>,
     key: &Key,
     hint: Hint,
     rest: Effects,
 ) -> Result<Effects, AllocError>
-    requires contexts { AreContexts (S.names change.now.old.now) (S.names change.now.new.now)
-        (S.tree change.now.old.now) (S.tree change.now.new.now) at.old.items contexts }
-    requires losses { OnlyLoses (seen at.old.items (S.tree change.now.old.now).now)
-        (seen at.old.items (S.tree change.now.new.now).now) }
-    ensures difference { IfOk result (λ effects. (ks : List AnyKey) → AreLater key.now ks
-        → IsDifferenceAmong ks (seen at.old.items (S.tree change.now.old.now).now)
-        (seen at.old.items (S.tree change.now.new.now).now) (differences_of rest)
-        → IsDifferenceAmong (key.now ∷ ks) (seen at.old.items (S.tree change.now.old.now).now)
-        (seen at.old.items (S.tree change.now.new.now).now) (differences_of effects)) }
-    ensures path { OnOk result (at.new.items ≡ at.old.items) }
+    requires { (at : List AnyTagged) × AreContexts (S.names change.now.old.now) (S.names change.now.new.now)
+        (S.tree change.now.old.now) (S.tree change.now.new.now) at contexts }
+    ensures { (at : List AnyTagged) → AreContexts (S.names change.now.old.now) (S.names change.now.new.now)
+        (S.tree change.now.old.now) (S.tree change.now.new.now) at contexts
+        → OnlyLoses (seen at (S.tree change.now.old.now).now) (seen at (S.tree change.now.new.now).now)
+        → IfOk result (λ effects. (ks : List AnyKey) → AreLater key.now ks
+        → IsDifferenceAmong ks (seen at (S.tree change.now.old.now).now)
+        (seen at (S.tree change.now.new.now).now) (differences_of rest)
+        → IsDifferenceAmong (key.now ∷ ks) (seen at (S.tree change.now.old.now).now)
+        (seen at (S.tree change.now.new.now).now) (differences_of effects)) }
 {
-    let own = own_lost(change, contexts, at.as_slice(), key, hint)?;
+    let own = own_lost(change, contexts, key, hint)?;
     if own.lost.is_empty() {
         // Where a key keeps its identifiers, nothing at it or below it is lost.
         return Ok(rest);
     }
-    let list = child_below(change, contexts, at, Tagged::ListT(key.copy()?))?;
-    let map = child_below(change, contexts, at, Tagged::MapT(key.copy()?))?;
+    let list = child_below(change, contexts, &Tagged::ListT(key.copy()?))?;
+    let map = child_below(change, contexts, &Tagged::MapT(key.copy()?))?;
     with_place(change.alloc, key, own, map, list, rest)
 }
 
-/// The places that differ in the context at the path, whose name in the old store is `place`. At the end `at` is as it
-/// was, unless memory ran out.
+/// The places that differ in the context, whose name in the old store is `place`.
 #[cycle(below)]
 fn places_below<S: TreeStore>(
     change: &Change<'_, S>,
     place: Place,
     contexts: Contexts,
-    at: &mut Vec<Tagged>,
 ) -> Result<Effects, AllocError>
-    requires contexts { AreContexts (S.names change.now.old.now) (S.names change.now.new.now)
-        (S.tree change.now.old.now) (S.tree change.now.new.now) at.old.items contexts }
+    requires contexts { (at : List AnyTagged) × AreContexts (S.names change.now.old.now) (S.names change.now.new.now)
+        (S.tree change.now.old.now) (S.tree change.now.new.now) at contexts }
     requires named { contexts.old ≡ Some place }
-    requires losses { OnlyLoses (seen at.old.items (S.tree change.now.old.now).now)
-        (seen at.old.items (S.tree change.now.new.now).now) }
-    ensures difference { IfOk result (λ effects. IsDifference (seen at.old.items (S.tree change.now.old.now).now)
-        (seen at.old.items (S.tree change.now.new.now).now) (differences_of effects)) }
-    ensures path { OnOk result (at.new.items ≡ at.old.items) }
+    ensures { (at : List AnyTagged) → AreContexts (S.names change.now.old.now) (S.names change.now.new.now)
+        (S.tree change.now.old.now) (S.tree change.now.new.now) at contexts
+        → OnlyLoses (seen at (S.tree change.now.old.now).now) (seen at (S.tree change.now.new.now).now)
+        → IfOk result (λ effects. IsDifference (seen at (S.tree change.now.old.now).now)
+        (seen at (S.tree change.now.new.now).now) (differences_of effects)) }
 {
     let mut effects = Effects::Nothing;
     let mut keys = change.old.keys_at(change.alloc, place)?;
     while let Some(lent) = keys.pop() {
-        if ids_in(change.old, contexts.old, at.as_slice(), lent.0, lent.1).is_empty() {
+        if ids_in(change.old, contexts.old, lent.0, lent.1).is_empty() {
             // Where nothing was, nothing was lost.
             continue;
         }
-        effects = place_below(change, contexts, at, lent.0, lent.1, effects)?;
+        effects = place_below(change, contexts, lent.0, lent.1, effects)?;
     }
     Ok(effects)
 }

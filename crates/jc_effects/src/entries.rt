@@ -1,6 +1,7 @@
 //! What stands under a key of a context that may be missing: then it is what a descent would make there.
 
-ghost use Rattle.std.specs.Prelude.{◌≡◌, ◌++◌, ◌∷◌, [], option_copied};
+ghost use Rattle.std.specs.Prelude.{◌≡◌, ◌++◌, ◌∷◌, [], List, option_copied};
+ghost use Rattle.jc_rules.specs.declared.key.Tagged.{Tagged as AnyTagged};
 ghost use Rattle.jc_rules.specs.declared.key.Tagged.TheVariants.{MapT, ListT, RegT};
 ghost use Rattle.jc_rules.specs.Context.{next as next_of};
 ghost use Rattle.jc_rules.specs.Ids.{AreRising};
@@ -27,12 +28,12 @@ pub(crate) struct Entries<'a> {
 pub(crate) fn ids_in<'a, S: TreeStore>(
     store: &'a S,
     place: Option<Place>,
-    at: &[Tagged],
     key: &Key,
     hint: Hint,
 ) -> &'a [Id]
-    requires { IsNameOf (S.names store.now) (S.tree store.now) at.now place }
-    ensures ids { result.now ≡ ids_at key.now (seen at.now (S.tree store.now).now) }
+    requires { (at : List AnyTagged) × IsNameOf (S.names store.now) (S.tree store.now) at place }
+    ensures ids { (at : List AnyTagged) → IsNameOf (S.names store.now) (S.tree store.now) at place
+        → result.now ≡ ids_at key.now (seen at (S.tree store.now).now) }
     ensures rising { AreRising result.now }
 {
     let Some(place) = place else {
@@ -48,12 +49,12 @@ pub(crate) fn ids_in<'a, S: TreeStore>(
 pub(crate) fn pairs_in<'a, S: TreeStore>(
     store: &'a S,
     place: Option<Place>,
-    at: &[Tagged],
     key: &Key,
     hint: Hint,
 ) -> &'a [(Id, Value)]
-    requires { IsNameOf (S.names store.now) (S.tree store.now) at.now place }
-    ensures pairs { result.now ≡ or_no_entries (reg_at key.now (seen at.now (S.tree store.now).now)) }
+    requires { (at : List AnyTagged) × IsNameOf (S.names store.now) (S.tree store.now) at place }
+    ensures pairs { (at : List AnyTagged) → IsNameOf (S.names store.now) (S.tree store.now) at place
+        → result.now ≡ or_no_entries (reg_at key.now (seen at (S.tree store.now).now)) }
     ensures formed { IsWellFormedRegister result.now }
 {
     let Some(place) = place else {
@@ -66,11 +67,14 @@ pub(crate) fn pairs_in<'a, S: TreeStore>(
 }
 
 /// Which tags the key has.
-fn tags_in<S: TreeStore>(store: &S, place: Option<Place>, at: &[Tagged], key: &Key) -> Tags
-    requires { IsNameOf (S.names store.now) (S.tree store.now) at.now place }
-    ensures map { result.map ≡ has_tag (MapT key.now) (seen at.now (S.tree store.now).now) }
-    ensures list { result.list ≡ has_tag (ListT key.now) (seen at.now (S.tree store.now).now) }
-    ensures register { result.register ≡ has_tag (RegT key.now) (seen at.now (S.tree store.now).now) }
+fn tags_in<S: TreeStore>(store: &S, place: Option<Place>, key: &Key) -> Tags
+    requires { (at : List AnyTagged) × IsNameOf (S.names store.now) (S.tree store.now) at place }
+    ensures map { (at : List AnyTagged) → IsNameOf (S.names store.now) (S.tree store.now) at place
+        → result.map ≡ has_tag (MapT key.now) (seen at (S.tree store.now).now) }
+    ensures list { (at : List AnyTagged) → IsNameOf (S.names store.now) (S.tree store.now) at place
+        → result.list ≡ has_tag (ListT key.now) (seen at (S.tree store.now).now) }
+    ensures register { (at : List AnyTagged) → IsNameOf (S.names store.now) (S.tree store.now) at place
+        → result.register ≡ has_tag (RegT key.now) (seen at (S.tree store.now).now) }
 {
     match place {
         Some(place) => Tags {
@@ -87,14 +91,10 @@ fn tags_in<S: TreeStore>(store: &S, place: Option<Place>, at: &[Tagged], key: &K
 }
 
 /// Whether the context has the tagged key.
-pub(crate) fn has_tag_in<S: TreeStore>(
-    store: &S,
-    place: Option<Place>,
-    at: &[Tagged],
-    tagged: &Tagged,
-) -> bool
-    requires { IsNameOf (S.names store.now) (S.tree store.now) at.now place }
-    ensures { result ≡ has_tag tagged.now (seen at.now (S.tree store.now).now) }
+pub(crate) fn has_tag_in<S: TreeStore>(store: &S, place: Option<Place>, tagged: &Tagged) -> bool
+    requires { (at : List AnyTagged) × IsNameOf (S.names store.now) (S.tree store.now) at place }
+    ensures { (at : List AnyTagged) → IsNameOf (S.names store.now) (S.tree store.now) at place
+        → result ≡ has_tag tagged.now (seen at (S.tree store.now).now) }
 {
     let Some(place) = place else {
         return false;
@@ -143,10 +143,10 @@ pub(crate) fn entries_at<'a, S: TreeStore>(
     ensures { AreEntries key.now (seen at.now (S.tree store.now).now) result }
 {
     Entries {
-        ids: ids_in(store, place, at, key, ANYWHERE),
-        tags: tags_in(store, place, at, key),
+        ids: ids_in(store, place, key, ANYWHERE),
+        tags: tags_in(store, place, key),
         next: link_in(store, place, at, key),
-        pairs: pairs_in(store, place, at, key, ANYWHERE),
+        pairs: pairs_in(store, place, key, ANYWHERE),
     }
 }
 
@@ -154,11 +154,11 @@ pub(crate) fn entries_at<'a, S: TreeStore>(
 pub(crate) fn name_below<S: TreeStore>(
     store: &S,
     place: Option<Place>,
-    at: &[Tagged],
     tagged: &Tagged,
 ) -> Option<Place>
-    requires { IsNameOf (S.names store.now) (S.tree store.now) at.now place }
-    ensures { IsNameOf (S.names store.now) (S.tree store.now) (at.now ++ tagged.now ∷ []) result }
+    requires { (at : List AnyTagged) × IsNameOf (S.names store.now) (S.tree store.now) at place }
+    ensures { (at : List AnyTagged) → IsNameOf (S.names store.now) (S.tree store.now) at place
+        → IsNameOf (S.names store.now) (S.tree store.now) (at ++ tagged.now ∷ []) result }
 {
     match place {
         Some(place) => store.below(place, tagged),

@@ -94,9 +94,6 @@ added_is i j s g = go (eqb i.replica j.replica) refl
 
 -- ---- of stored operations
 
-without_itself : (os : List Op) → without (identifiers os) (identifiers os) ≡ []
-without_itself os = sym (new_without os os) ∙ ap identifiers (none_new os)
-
 -- those that are new, of the states and as they are stored
 new_kept : (os ps : List Op) → identifiers (filter (is_new (map stored_op os)) (map stored_op ps)) ≡ without (identifiers ps) (identifiers os)
 new_kept os ps = new_without (map stored_op os) (map stored_op ps) ∙ (λ n. without (kept_ids ps n) (kept_ids os n))

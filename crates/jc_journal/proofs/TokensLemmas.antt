@@ -52,11 +52,6 @@ line_is begun done es line b t g e =
     ∙ ap (λ (x : List ℕ). (x ++ print (done.tokens ++ T.end_object ∷ [])) ++ 10 ∷ []) before
     ∙ ap (λ (ts : List Token). print ts ++ 10 ∷ []) tokens
 
--- one member: its key, then its value
-pub member_one : (a b c : Written) (k : List ℕ) (j : Json) → Gains a b (T.key k ∷ []) → Gains b c (json_tokens j) → Gains a c (member_tokens ((k, j) ∷ []))
-member_one a b c k j g h =
-    subst (Gains a c) (ap (λ (ts : List Token). T.key k ∷ ts) (sym (append-nil (json_tokens j)))) (gains_then a b c (T.key k ∷ []) (json_tokens j) g h)
-
 -- ---- the rules of a trace, run by run
 
 rows_end : (rows : List (Rule × ℕ)) → items_tokens (rule_items rows) ≡ flat_map row_tokens rows ++ T.end_array ∷ []

@@ -4,7 +4,6 @@
 
 mod effects;
 mod event;
-mod lookup;
 mod members;
 mod operation;
 mod stuck;

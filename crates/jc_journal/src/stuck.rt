@@ -7,7 +7,7 @@ ghost use Rattle.jc_rules.specs.declared.id.Id.{Id as AnyId};
 ghost use Rattle.jc_rules.specs.Ids.{AreRising, has_id};
 ghost use Rattle.jc_rules.specs.Refused.{Cause};
 ghost use Rattle.jc_rules.specs.State.{State};
-ghost use Rattle.jc_replica.specs.Operations.{identifiers};
+ghost use Rattle.jc_replica.specs.Operations.{identifiers, AreInOrder};
 ghost use Rattle.jc_network.specs.Steps.{stuck_for};
 ghost use Rattle.jc_dump.specs.Lines.{IsNamedStuck};
 ghost use Rattle.jc_json.specs.Gains.{Gains};
@@ -15,13 +15,13 @@ ghost use Rattle.jc_json.specs.Values.{strings_json};
 ghost use Rattle.jc_journal.specs.StuckLine.{wanted_id, key_member, offering_from, offered_member, missing_ids, missing_member, stuck_event_line};
 ghost use Rattle.jc_journal.specs.Parts.{member_tokens, name_tokens, IsMissingOf, told_members};
 
-use crate::lookup::{find, has};
 use crate::members::{
     begin_line, end_line, write_count, write_event, write_given, write_kind, write_number,
     write_replica, write_text,
 };
 use jc_json::{tagged_text, write_ids};
 use jc_network::{Net, Stuck};
+use jc_replica::find;
 use jc_rules::{Event, Id, IdSet, Op, Refusal, Tagged, Text, insert_id, name_at};
 use json::Writer;
 use std::alloc::{AllocError, Global};
@@ -53,6 +53,14 @@ fn wanted_id(event: &Event) -> Option<Id>
         Event::Apply(_, id) => Some(*id),
         Event::Exec(_) | Event::Send(_) | Event::Recv(_, _) | Event::Done(_) => None,
     }
+}
+
+/// Whether an operation has the identifier.
+fn has(ops: &[Op], id: Id) -> bool
+    requires { AreInOrder ops.now }
+    ensures { result ≡ has_id id (identifiers ops.now) }
+{
+    find(ops, id).is_some()
 }
 
 /// Writes the name of the replica, if it is there and offers the operation.

@@ -119,31 +119,31 @@ kinds_are names (context m l r p n) =
 
 -- ---- lists of members, one after the other
 
-data-joined : (names : List (List ℕ)) (c : Context) (ms ns : List Member) → members_data names c (ms ++ ns) ≡ joined (members_data names c ms) (members_data names c ns)
-data-joined names c [] ns = refl
-data-joined names c (m ∷ ms) ns = ap (member (name_of m) (part_data names c m.part)) (data-joined names c ms ns)
+data-joined : (names : List (List ℕ)) (contexts : Place → Context) (ms ns : List Member) → members_data names contexts (ms ++ ns) ≡ joined (members_data names contexts ms) (members_data names contexts ns)
+data-joined names contexts [] ns = refl
+data-joined names contexts (m ∷ ms) ns = ap (member (name_of m) (part_data names contexts m.part)) (data-joined names contexts ms ns)
 
-module _ (named : Place → List Tagged → Type 0) (at : List Tagged) (c : Context) where
-  parts-joined : (ms ns : List Member) → ArePartsAt named at c ms → ArePartsAt named at c ns → ArePartsAt named at c (ms ++ ns)
+module _ (named : Place → List Tagged → Type 0) (contexts : Place → Context) (at : List Tagged) (c : Context) where
+  parts-joined : (ms ns : List Member) → ArePartsAt named at ms → ArePartsAt named at ns → ArePartsAt named at (ms ++ ns)
   parts-joined [] ns a b = b
   parts-joined (m ∷ ms) ns a b = (a.0, parts-joined ms ns a.1 b)
 
   -- what the members of one kind show
-  shows_kind : (names : List (List ℕ)) (kind : Kind) (ts : Texts) (ms : List Member) → AreTextsOf names c ts → AreMembersOfKind named at c kind ts ms → members_data names c ms ≡ data_of names c kind
+  shows_kind : (names : List (List ℕ)) (kind : Kind) (ts : Texts) (ms : List Member) → AreTextsOf names c ts → AreMembersOfKind named contexts at c kind ts ms → members_data names contexts ms ≡ data_of names c kind
   shows_kind names kind ts ms t h = h.shown names t.texts ∙ t.members kind no_members
 
-  pub all_kinds : (names : List (List ℕ)) (ts : Texts) (ls ms ns ps rs all : List Member) → AreMembersOfKind named at c K.List ts ls → AreMembersOfKind named at c K.Map ts ms → AreMembersOfKind named at c K.Next ts ns
-      → AreMembersOfKind named at c K.Presence ts ps → AreMembersOfKind named at c K.Register ts rs → all ≡ ls ++ ms ++ ns ++ ps ++ rs → AreTextsOf names c ts → AreMembersOf named at names c all
-  all_kinds names ts ls ms ns ps rs all l m n p r is t = subst (AreMembersOf named at names c) (sym is) (record {
+  pub all_kinds : (names : List (List ℕ)) (ts : Texts) (ls ms ns ps rs all : List Member) → AreMembersOfKind named contexts at c K.List ts ls → AreMembersOfKind named contexts at c K.Map ts ms → AreMembersOfKind named contexts at c K.Next ts ns
+      → AreMembersOfKind named contexts at c K.Presence ts ps → AreMembersOfKind named contexts at c K.Register ts rs → all ≡ ls ++ ms ++ ns ++ ps ++ rs → AreTextsOf names c ts → AreMembersOf named contexts at names c all
+  all_kinds names ts ls ms ns ps rs all l m n p r is t = subst (AreMembersOf named contexts at names c) (sym is) (record {
     shown = ap object (
-        data-joined names c (ls ++ ms ++ ns ++ ps) rs
-        ∙ ap (λ x. joined x (members_data names c rs)) (data-joined names c (ls ++ ms ++ ns) ps)
-        ∙ ap (λ x. joined (joined x (members_data names c ps)) (members_data names c rs)) (data-joined names c (ls ++ ms) ns)
-        ∙ ap (λ x. joined (joined (joined x (members_data names c ns)) (members_data names c ps)) (members_data names c rs)) (data-joined names c ls ms)
-        ∙ ap (λ x. joined (joined (joined (joined x (members_data names c ms)) (members_data names c ns)) (members_data names c ps)) (members_data names c rs)) (shows_kind names K.List ts ls t l)
-        ∙ ap (λ x. joined (joined (joined (joined (data_of names c K.List) x) (members_data names c ns)) (members_data names c ps)) (members_data names c rs)) (shows_kind names K.Map ts ms t m)
-        ∙ ap (λ x. joined (joined (joined (joined (data_of names c K.List) (data_of names c K.Map)) x) (members_data names c ps)) (members_data names c rs)) (shows_kind names K.Next ts ns t n)
-        ∙ ap (λ x. joined (joined (joined (joined (data_of names c K.List) (data_of names c K.Map)) (data_of names c K.Next)) x) (members_data names c rs)) (shows_kind names K.Presence ts ps t p)
+        data-joined names contexts (ls ++ ms ++ ns ++ ps) rs
+        ∙ ap (λ x. joined x (members_data names contexts rs)) (data-joined names contexts (ls ++ ms ++ ns) ps)
+        ∙ ap (λ x. joined (joined x (members_data names contexts ps)) (members_data names contexts rs)) (data-joined names contexts (ls ++ ms) ns)
+        ∙ ap (λ x. joined (joined (joined x (members_data names contexts ns)) (members_data names contexts ps)) (members_data names contexts rs)) (data-joined names contexts ls ms)
+        ∙ ap (λ x. joined (joined (joined (joined x (members_data names contexts ms)) (members_data names contexts ns)) (members_data names contexts ps)) (members_data names contexts rs)) (shows_kind names K.List ts ls t l)
+        ∙ ap (λ x. joined (joined (joined (joined (data_of names c K.List) x) (members_data names contexts ns)) (members_data names contexts ps)) (members_data names contexts rs)) (shows_kind names K.Map ts ms t m)
+        ∙ ap (λ x. joined (joined (joined (joined (data_of names c K.List) (data_of names c K.Map)) x) (members_data names contexts ps)) (members_data names contexts rs)) (shows_kind names K.Next ts ns t n)
+        ∙ ap (λ x. joined (joined (joined (joined (data_of names c K.List) (data_of names c K.Map)) (data_of names c K.Next)) x) (members_data names contexts rs)) (shows_kind names K.Presence ts ps t p)
         ∙ ap (λ x. joined (joined (joined (joined (data_of names c K.List) (data_of names c K.Map)) (data_of names c K.Next)) (data_of names c K.Presence)) x) (shows_kind names K.Register ts rs t r)
         ) ∙ kinds_are names c;
     parts = parts-joined (ls ++ ms ++ ns ++ ps) rs (parts-joined (ls ++ ms ++ ns) ps (parts-joined (ls ++ ms) ns (parts-joined ls ms l.parts m.parts) n.parts) p.parts) r.parts;

@@ -113,22 +113,22 @@ module _ (kind : Kind) (m : Member) where
   )
 
   -- it is put among the members that are shown
-  shown-with : (names : List (List ℕ)) (c : Context) (ms : List Member) → m.kind ≡ kind → AreUpTo kind m.text.now ms → members_data names c (with_last m ms) ≡ put (name_of m) (part_data names c m.part) (members_data names c ms)
-  shown-with names c [] h u = refl
-  shown-with names c (l ∷ []) h u = go (name_cmp m.text.now l.text.now) refl
+  shown-with : (names : List (List ℕ)) (contexts : Place → Context) (ms : List Member) → m.kind ≡ kind → AreUpTo kind m.text.now ms → members_data names contexts (with_last m ms) ≡ put (name_of m) (part_data names contexts m.part) (members_data names contexts ms)
+  shown-with names contexts [] h u = refl
+  shown-with names contexts (l ∷ []) h u = go (name_cmp m.text.now l.text.now) refl
     where
-      go : (o : Ordering) → name_cmp m.text.now l.text.now ≡ o → members_data names c (with_last m (l ∷ [])) ≡ put (name_of m) (part_data names c m.part) (members_data names c (l ∷ []))
+      go : (o : Ordering) → name_cmp m.text.now l.text.now ≡ o → members_data names contexts (with_last m (l ∷ [])) ≡ put (name_of m) (part_data names contexts m.part) (members_data names contexts (l ∷ []))
       go Less f = absurd (u.low.0 f)
       go Equal f =
-          ap (members_data names c) (with-same m l f)
-          ∙ ap (λ (n : List ℕ). member n (part_data names c m.part) no_members) (sym (same-name l h u.kinds.0 f))
-          ∙ sym (put_equal (name_of m) (name_of l) (part_data names c m.part) (part_data names c l.part) no_members (names-compare l Equal h u.kinds.0 f))
+          ap (members_data names contexts) (with-same m l f)
+          ∙ ap (λ (n : List ℕ). member n (part_data names contexts m.part) no_members) (sym (same-name l h u.kinds.0 f))
+          ∙ sym (put_equal (name_of m) (name_of l) (part_data names contexts m.part) (part_data names contexts l.part) no_members (names-compare l Equal h u.kinds.0 f))
       go Greater f =
-          ap (members_data names c) (with-other m l f)
-          ∙ sym (put_greater (name_of m) (name_of l) (part_data names c m.part) (part_data names c l.part) no_members (names-compare l Greater h u.kinds.0 f))
-  shown-with names c (l ∷ k ∷ ls) h u =
-      ap (member (name_of l) (part_data names c l.part)) (shown-with names c (k ∷ ls) h (record { kinds = u.kinds.1; rising = u.rising.1; low = u.low.1 }))
-      ∙ sym (put_greater (name_of m) (name_of l) (part_data names c m.part) (part_data names c l.part) (members_data names c (k ∷ ls))
+          ap (members_data names contexts) (with-other m l f)
+          ∙ sym (put_greater (name_of m) (name_of l) (part_data names contexts m.part) (part_data names contexts l.part) no_members (names-compare l Greater h u.kinds.0 f))
+  shown-with names contexts (l ∷ k ∷ ls) h u =
+      ap (member (name_of l) (part_data names contexts l.part)) (shown-with names contexts (k ∷ ls) h (record { kinds = u.kinds.1; rising = u.rising.1; low = u.low.1 }))
+      ∙ sym (put_greater (name_of m) (name_of l) (part_data names contexts m.part) (part_data names contexts l.part) (members_data names contexts (k ∷ ls))
       (names-compare l Greater h u.kinds.0 (over_lower l.text.now k.text.now m.text.now u.rising.0.0 u.low.1.0)))
 
   -- and it is the last
@@ -152,23 +152,23 @@ higher s t o (m ∷ ms) h a = (λ f. a.0 (go (name_cmp s t) refl f), higher s t 
 -- ---- the loop over the texts
 
 -- These are the members of the kind whose texts came before those that are left.
-pub record AreSoFar (named : Place → List Tagged → Type 0) (at : List Tagged) (c : Context) (kind : Kind) (all left : Texts) (ms : List Member) : Type 0 where
+pub record AreSoFar (named : Place → List Tagged → Type 0) (contexts : Place → Context) (at : List Tagged) (c : Context) (kind : Kind) (all left : Texts) (ms : List Member) : Type 0 where
   pub shown : (names : List (List ℕ)) → HasTexts names all → HasTexts names left
-      × (put_all (map (member_of names (word_of kind)) (entries_at (keys_in left) (shown_in names kind c))) (members_data names c ms)
+      × (put_all (map (member_of names (word_of kind)) (entries_at (keys_in left) (shown_in names kind c))) (members_data names contexts ms)
       ≡ put_all (map (member_of names (word_of kind)) (entries_at (keys_in all) (shown_in names kind c))) no_members)
   pub kinds : AllByRecursion (λ (m : Member). m.kind ≡ kind) ms
   pub rising : IsRising name_cmp (texts_of ms)
   pub low : AllByRecursion (λ (t : LentText). AllByRecursion (λ (m : Member). name_cmp t.0.0.now m.text.now ≢ Less) ms) left
   pub order : AreInOrder left
-  pub parts : ArePartsAt named at c ms
+  pub parts : ArePartsAt named at ms
 
-module _ (named : Place → List Tagged → Type 0) (at : List Tagged) (c : Context) (kind : Kind) where
+module _ (named : Place → List Tagged → Type 0) (contexts : Place → Context) (at : List Tagged) (c : Context) (kind : Kind) where
   none_low : (ts : Texts) → AllByRecursion (λ (t : LentText). AllByRecursion (λ (m : Member). name_cmp t.0.0.now m.text.now ≢ Less) []) ts
   none_low [] = tt
   none_low (t ∷ ts) = (tt, none_low ts)
 
-  pub so_far_begins : (all left : Texts) → left ≡ all → AreInOrder all → AreSoFar named at c kind all left []
-  so_far_begins all left is s = subst (λ ts. AreSoFar named at c kind all ts []) (sym is) (record {
+  pub so_far_begins : (all left : Texts) → left ≡ all → AreInOrder all → AreSoFar named contexts at c kind all left []
+  so_far_begins all left is s = subst (λ ts. AreSoFar named contexts at c kind all ts []) (sym is) (record {
     shown = λ names h. (h, refl);
     kinds = tt;
     rising = tt;
@@ -184,13 +184,13 @@ module _ (named : Place → List Tagged → Type 0) (at : List Tagged) (c : Cont
 
   module _ (t : LentText) (all left rest : Texts) (ms : List Member) (is : left ≡ t ∷ rest) where
     -- the next key has no such member
-    pub so_far_skips : ((names : List (List ℕ)) → None ≡ find key_cmp t.1.0.now (shown_in names kind c)) → AreSoFar named at c kind all left ms → AreSoFar named at c kind all rest ms
+    pub so_far_skips : ((names : List (List ℕ)) → None ≡ find key_cmp t.1.0.now (shown_in names kind c)) → AreSoFar named contexts at c kind all left ms → AreSoFar named contexts at c kind all rest ms
     so_far_skips none f =
-        let g : AreSoFar named at c kind all (t ∷ rest) ms = subst (λ ts. AreSoFar named at c kind all ts ms) is f in
+        let g : AreSoFar named contexts at c kind all (t ∷ rest) ms = subst (λ ts. AreSoFar named contexts at c kind all ts ms) is f in
         record {
           shown = λ names h. (
             (g.shown names h).0.1,
-            ap (λ o. put_all (map (member_of names (word_of kind)) (entry_of t.1.0.now o ++ entries_at (keys_in rest) (shown_in names kind c))) (members_data names c ms)) (none names)
+            ap (λ o. put_all (map (member_of names (word_of kind)) (entry_of t.1.0.now o ++ entries_at (keys_in rest) (shown_in names kind c))) (members_data names contexts ms)) (none names)
                 ∙ (g.shown names h).1,
           );
           kinds = g.kinds;
@@ -201,30 +201,30 @@ module _ (named : Place → List Tagged → Type 0) (at : List Tagged) (c : Cont
         }
 
     -- it has one
-    pub so_far_adds : (m : Member) → m.kind ≡ kind → m.text.now ≡ t.0.0.now → ((names : List (List ℕ)) → Some (part_data names c m.part) ≡ find key_cmp t.1.0.now (shown_in names kind c)) → IsPartAt named at c m.part
-        → (new : List Member) → new ≡ with_last m ms → AreSoFar named at c kind all left ms → AreSoFar named at c kind all rest new
-    so_far_adds m k e some p new w f =
-        let g : AreSoFar named at c kind all (t ∷ rest) ms = subst (λ ts. AreSoFar named at c kind all ts ms) is f in
+    pub so_far_adds : (m : Member) (j : Tagged) → m.kind ≡ kind → m.text.now ≡ t.0.0.now → ((names : List (List ℕ)) → Some (part_data names contexts m.part) ≡ find key_cmp t.1.0.now (shown_in names kind c)) → IsPartAt named (at ++ j ∷ []) m.part
+        → (new : List Member) → new ≡ with_last m ms → AreSoFar named contexts at c kind all left ms → AreSoFar named contexts at c kind all rest new
+    so_far_adds m j k e some p new w f =
+        let g : AreSoFar named contexts at c kind all (t ∷ rest) ms = subst (λ ts. AreSoFar named contexts at c kind all ts ms) is f in
         let low : AllByRecursion (λ (l : Member). name_cmp m.text.now l.text.now ≢ Less) ms = subst (λ (x : List ℕ). AllByRecursion (λ (l : Member). name_cmp x l.text.now ≢ Less) ms) (sym e) g.low.0 in
         let u : AreUpTo kind m.text.now ms = record { kinds = g.kinds; rising = g.rising; low = low } in
         let v : AreUpTo kind m.text.now (with_last m ms) = up_to-with kind m ms k u in
-        subst (AreSoFar named at c kind all rest) (sym w) (record {
+        subst (AreSoFar named contexts at c kind all rest) (sym w) (record {
           shown = λ names h.
               let text : name_of m ≡ word_of kind ++ closed_text names t.1.0.now = ap (λ q. word_of q ++ m.text.now) k ∙ ap (λ x. word_of kind ++ x) (e ∙ (g.shown names h).0.0) in (
                 (g.shown names h).0.1,
                 ap (put_all (map (member_of names (word_of kind)) (entries_at (keys_in rest) (shown_in names kind c))))
-                    (shown-with kind m names c ms k u ∙ ap (λ x. put x (part_data names c m.part) (members_data names c ms)) text)
-                    ∙ ap (λ o. put_all (map (member_of names (word_of kind)) (entry_of t.1.0.now o ++ entries_at (keys_in rest) (shown_in names kind c))) (members_data names c ms)) (some names)
+                    (shown-with kind m names contexts ms k u ∙ ap (λ x. put x (part_data names contexts m.part) (members_data names contexts ms)) text)
+                    ∙ ap (λ o. put_all (map (member_of names (word_of kind)) (entry_of t.1.0.now o ++ entries_at (keys_in rest) (shown_in names kind c))) (members_data names contexts ms)) (some names)
                     ∙ (g.shown names h).1,
               );
           kinds = v.kinds;
           rising = v.rising;
           low = all_higher t rest (with_last m ms) g.order.0 (subst (λ (x : List ℕ). AllByRecursion (λ (l : Member). name_cmp x l.text.now ≢ Less) (with_last m ms)) e v.low);
           order = g.order.1;
-          parts = all_with (λ (l : Member). IsPartAt named at c l.part) m ms p g.parts;
+          parts = all_with (λ (l : Member). (j : Tagged) × IsPartAt named (at ++ j ∷ []) l.part) m ms (j, p) g.parts;
         })
 
-  pub so_far_ends : (all left : Texts) (ms : List Member) → left ≡ [] → AreSoFar named at c kind all left ms → AreMembersOfKind named at c kind all ms
+  pub so_far_ends : (all left : Texts) (ms : List Member) → left ≡ [] → AreSoFar named contexts at c kind all left ms → AreMembersOfKind named contexts at c kind all ms
   so_far_ends all left ms is f =
-      let g : AreSoFar named at c kind all [] ms = subst (λ ts. AreSoFar named at c kind all ts ms) is f in
+      let g : AreSoFar named contexts at c kind all [] ms = subst (λ ts. AreSoFar named contexts at c kind all ts ms) is f in
       record { shown = λ names h. (g.shown names h).1; parts = g.parts }

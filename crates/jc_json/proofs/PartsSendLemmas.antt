@@ -9,6 +9,7 @@ use Rattle.serde_json.specs.Data.{Data, Items, no_items, item, Members, no_membe
 use Rattle.serde_json.specs.Events.{items_len, members_len, SendsValue, SendsItems, SendsMembers}
 use Rattle.serde_json.specs.View.{items_of}
 use Rattle.jc_rules.specs.Context.{Context}
+use Rattle.jc_tree.specs.declared.store.Place.{Place}
 use Rattle.jc_json.specs.declared.tree.Member.{Member}
 use Rattle.jc_json.specs.Json.{object_of}
 use Rattle.jc_json.specs.Parts.{shown_as, members_data}
@@ -77,6 +78,6 @@ module _ {X : Type 0} (show : List X → Members) (xs : List X) (i : ℕ) (start
   pub members_end : (end : Log) → show [] ≡ no_members → length xs ≤ i → Logs old end map_ends → MembersFrom show xs i start old → SendsMembers (show xs) start end
   members_end end none h ended so_far = so_far end (subst (λ ms. SendsMembers ms old end) (sym (ap show (drop_all i xs h) ∙ none)) ended)
 
-pub members_len-data : (names : List (List ℕ)) (c : Context) (ms : List Member) → members_len (members_data names c ms) ≡ length ms
-members_len-data names c [] = refl
-members_len-data names c (m ∷ ms) = ap suc (members_len-data names c ms)
+pub members_len-data : (names : List (List ℕ)) (contexts : Place → Context) (ms : List Member) → members_len (members_data names contexts ms) ≡ length ms
+members_len-data names contexts [] = refl
+members_len-data names contexts (m ∷ ms) = ap suc (members_len-data names contexts ms)

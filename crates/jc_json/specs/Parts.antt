@@ -1,6 +1,6 @@
 -- The members of a context, kind by kind and by the texts of their keys, by which the code sends it; jc_dump cites
 -- `shown_as`.
-use Rattle.std.specs.Prelude.{◌≡◌, ⊤, ℕ, ◌+◌, List, [], ◌∷◌, ◌++◌, map, codes, nat_eq, true, cond, is_some, String, length}
+use Rattle.std.specs.Prelude.{◌≡◌, ⊤, ℕ, ◌+◌, List, [], ◌∷◌, ◌++◌, map, codes, nat_eq, cond, String, length}
 use Rattle.std.specs.List.{AllByRecursion, flat_map}
 use Rattle.std.specs.Ordering.{nat_cmp, ordering_then}
 use Rattle.std.specs.declared.cmp.Ordering.{Ordering}
@@ -12,16 +12,13 @@ use Rattle.serde_json.specs.Data.{Data, string, object, Members, no_members, mem
 use Rattle.serde_json.specs.View.{members_of}
 use Rattle.jc_rules.specs.declared.key.Key.{Key}
 use Rattle.jc_rules.specs.declared.key.Tagged.{Tagged}
-use Rattle.jc_rules.specs.declared.key.Tagged.TheVariants.{MapT, ListT}
-use Rattle.jc_rules.specs.Context.{Context, maps, lists, registers, presences, links, content}
-use Rattle.jc_rules.specs.Order.{key_cmp, name_cmp}
-use Rattle.jc_rules.specs.Entries.{find}
-use Rattle.jc_rules.specs.ContextsAt.{or_empty}
+use Rattle.jc_rules.specs.declared.key.Tagged.TheVariants.{MapT, ListT, RegT}
+use Rattle.jc_rules.specs.Context.{Context, maps, lists, registers, presences, links}
+use Rattle.jc_rules.specs.Order.{name_cmp}
 use Rattle.jc_tree.specs.declared.store.Hint.{Hint}
 use Rattle.jc_tree.specs.declared.store.Place.{Place}
+use Rattle.jc_tree.specs.Tree.{Tree, here}
 use Rattle.jc_tree.specs.Walks.{entries_at}
-use Rattle.jc_json.specs.declared.tree.Branch.{Branch}
-use Rattle.jc_json.specs.declared.tree.Branch.TheVariants as B
 use Rattle.jc_json.specs.declared.tree.Kind.{Kind}
 use Rattle.jc_json.specs.declared.tree.Kind.TheVariants as K
 use Rattle.jc_json.specs.declared.tree.Part.{Part}
@@ -56,6 +53,12 @@ shown_in names K.Map c = with_data (context_data names) (maps c)
 shown_in names K.Next c = with_data (λ n. string (next_text names n)) (links c)
 shown_in names K.Presence c = with_data (ids_data names) (presences c)
 shown_in names K.Register c = with_data (register_data names) (registers c)
+
+-- the tagged key of an entry of a kind; links and presence sets have none, and any stands for it
+abbrev pub tag_of : Kind → Key → Tagged
+tag_of K.List k = ListT k
+tag_of K.Map k = MapT k
+tag_of _ k = RegT k
 
 -- the member of an entry
 abbrev pub member_of : List (List ℕ) → List ℕ → Key × Data → List ℕ × Data
@@ -110,40 +113,36 @@ pub record AreTextsOf (names : List (List ℕ)) (c : Context) (ts : Texts) : Typ
 
 -- ---- parts
 
-abbrev pub tag_of : Branch → Key → Tagged
-tag_of B.Map k = MapT k
-tag_of B.List k = ListT k
+-- the context at each place, by the path that the place names
+abbrev pub by_place : (Place → List Tagged) → Tree → Place → Context
+by_place path t p = here (path p) t
 
--- the children of one kind
-abbrev pub children_in : Branch → Context → List (Key × Context)
-children_in B.Map c = maps c
-children_in B.List c = lists c
+-- what a part of a context shows, by the context at each place
+abbrev pub part_data : List (List ℕ) → (Place → Context) → Part → Data
+part_data names contexts (P.Child p) = context_data names (contexts p)
+part_data names contexts (P.Register r) = register_data names r.now
+part_data names contexts (P.Presence ids) = ids_data names ids.now
+part_data names contexts (P.Link n) = string (next_text names n)
 
--- what a part of a context shows
-abbrev pub part_data : List (List ℕ) → Context → Part → Data
-part_data names c (P.Child b k p) = context_data names (or_empty (find key_cmp k.now (children_in b c)))
-part_data names c (P.Register r) = register_data names r.now
-part_data names c (P.Presence ids) = ids_data names ids.now
-part_data names c (P.Link n) = string (next_text names n)
-
--- a part that is a child is there, and has the store's name for its place
-abbrev pub IsPartAt : (Place → List Tagged → Type 0) → List Tagged → Context → Part → Type 0
-IsPartAt named at c (P.Child b k p) = (is_some (content (tag_of b k.now) c) ≡ true) × named p (at ++ tag_of b k.now ∷ [])
-IsPartAt named at c (P.Register r) = ⊤
-IsPartAt named at c (P.Presence ids) = ⊤
-IsPartAt named at c (P.Link n) = ⊤
+-- a part that is a child has the store's name for the place with this path
+abbrev pub IsPartAt : (Place → List Tagged → Type 0) → List Tagged → Part → Type 0
+IsPartAt named at (P.Child p) = named p at
+IsPartAt named at (P.Register r) = ⊤
+IsPartAt named at (P.Presence ids) = ⊤
+IsPartAt named at (P.Link n) = ⊤
 
 -- ---- members
 
 abbrev pub name_of : Member → List ℕ
 name_of m = word_of m.kind ++ m.text.now
 
-abbrev pub members_data : List (List ℕ) → Context → List Member → Members
-members_data names c [] = no_members
-members_data names c (m ∷ ms) = member (name_of m) (part_data names c m.part) (members_data names c ms)
+abbrev pub members_data : List (List ℕ) → (Place → Context) → List Member → Members
+members_data names contexts [] = no_members
+members_data names contexts (m ∷ ms) = member (name_of m) (part_data names contexts m.part) (members_data names contexts ms)
 
-abbrev pub ArePartsAt : (Place → List Tagged → Type 0) → List Tagged → Context → List Member → Type 0
-ArePartsAt named at c ms = AllByRecursion (λ (m : Member). IsPartAt named at c m.part) ms
+-- each part stands below the path
+abbrev pub ArePartsAt : (Place → List Tagged → Type 0) → List Tagged → List Member → Type 0
+ArePartsAt named at ms = AllByRecursion (λ (m : Member). (t : Tagged) × IsPartAt named (at ++ t ∷ []) m.part) ms
 
 -- with this member last, in place of a last one of the same text
 abbrev pub with_last : Member → List Member → List Member
@@ -151,15 +150,15 @@ with_last m [] = m ∷ []
 with_last m (l ∷ []) = cond (pointwise nat_eq l.text.now m.text.now) (m ∷ []) (l ∷ m ∷ [])
 with_last m (l ∷ k ∷ ls) = l ∷ with_last m (k ∷ ls)
 
--- These are the members of one kind of a context, whose keys have these texts.
-pub record AreMembersOfKind (named : Place → List Tagged → Type 0) (at : List Tagged) (c : Context) (kind : Kind) (ts : Texts) (ms : List Member)
+-- These are the members of one kind of the context c at a path, whose keys have these texts.
+pub record AreMembersOfKind (named : Place → List Tagged → Type 0) (contexts : Place → Context) (at : List Tagged) (c : Context) (kind : Kind) (ts : Texts) (ms : List Member)
     : Type 0 where
   pub shown : (names : List (List ℕ)) → HasTexts names ts
-      → members_data names c ms ≡ put_all (map (member_of names (word_of kind)) (entries_at (keys_in ts) (shown_in names kind c))) no_members
-  pub parts : ArePartsAt named at c ms
+      → members_data names contexts ms ≡ put_all (map (member_of names (word_of kind)) (entries_at (keys_in ts) (shown_in names kind c))) no_members
+  pub parts : ArePartsAt named at ms
 
--- These are the members of a context, in the order of their names.
-pub record AreMembersOf (named : Place → List Tagged → Type 0) (at : List Tagged) (names : List (List ℕ)) (c : Context) (ms : List Member)
+-- These are the members of the context c at a path, in the order of their names.
+pub record AreMembersOf (named : Place → List Tagged → Type 0) (contexts : Place → Context) (at : List Tagged) (names : List (List ℕ)) (c : Context) (ms : List Member)
     : Type 0 where
-  pub shown : object (members_data names c ms) ≡ context_data names c
-  pub parts : ArePartsAt named at c ms
+  pub shown : object (members_data names contexts ms) ≡ context_data names c
+  pub parts : ArePartsAt named at ms

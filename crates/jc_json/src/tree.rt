@@ -2,16 +2,17 @@
 
 ghost use Rattle.std.specs.Prelude.{◌≡◌, ℕ, List, [], ◌∷◌, ◌++◌, string_bytes, option_map, IfSome, IfOk, OnOk};
 ghost use Rattle.serde_json.specs.Events.{SendsValue};
+ghost use Rattle.jc_rules.specs.declared.key.Tagged.{Tagged as AnyTagged};
 ghost use Rattle.jc_rules.specs.Order.{key_cmp};
 ghost use Rattle.jc_rules.specs.Entries.{find};
-ghost use Rattle.jc_tree.specs.Tree.{HasPlace, here, keys_lent};
+ghost use Rattle.jc_tree.specs.Tree.{here, keys_lent};
 ghost use Rattle.jc_json.specs.Json.{context_data};
-ghost use Rattle.jc_json.specs.Parts.{tag_of, word_of, shown_in, part_data, IsPartAt, name_of, with_last, AreJoined, AreTextsFrom, AreInOrder, AreTextsOf, AreMembersOfKind, AreMembersOf};
+ghost use Rattle.jc_json.specs.Parts.{word_of, shown_in, tag_of, by_place, part_data, IsPartAt, name_of, with_last, AreJoined, AreTextsFrom, AreInOrder, AreTextsOf, AreMembersOfKind, AreMembersOf};
 
 use crate::send::{granted, send_ids, send_register};
 use crate::texts::{next_text, push_closed};
-use jc_rules::{Id, Key, Next, Tagged, Text, Value};
-use jc_tree::{Hint, Place, TreeStore};
+use jc_rules::{Id, Key, Next, Text, Value};
+use jc_tree::{Hint, KeyAt, Place, TreeStore};
 use serde::{Described, Serialize, Serializer};
 use std::alloc::{AllocError, Global};
 
@@ -40,28 +41,10 @@ impl Kind {
     }
 }
 
-/// The kinds of entry that lead to a context.
-#[derive(Clone, Copy)]
-enum Branch {
-    Map,
-    List,
-}
-
-impl Branch {
-    fn tagged(self, key: Key) -> Tagged
-        ensures { result ≡ tag_of self key }
-    {
-        match self {
-            Branch::Map => Tagged::MapT(key),
-            Branch::List => Tagged::ListT(key),
-        }
-    }
-}
-
 /// What a member of a context's object shows. A child has the store's name for its place.
 #[derive(Clone, Copy)]
 enum Part<'a> {
-    Child(Branch, &'a Key, Place),
+    Child(Place),
     Register(&'a [(Id, Value)]),
     Presence(&'a [Id]),
     Link(Next),
@@ -136,13 +119,12 @@ fn texts_at<'a, S: TreeStore>(
     names: &[Text],
     store: &'a S,
     place: Place,
-    at: &[Tagged],
     all: &'a mut String,
 ) -> Result<Texts<'a>, AllocError>
-    requires there { HasPlace at.now (S.tree store.now) }
-    requires named { S.names store.now place at.now }
+    requires { (at : List AnyTagged) × S.names store.now place at }
     ensures order { IfOk result (λ texts. AreInOrder texts.items) }
-    ensures texts { IfOk result (λ texts. AreTextsOf names.now (here at.now (S.tree store.now)) texts.items) }
+    ensures texts { (at : List AnyTagged) → S.names store.now place at
+        → IfOk result (λ texts. AreTextsOf names.now (here at (S.tree store.now)) texts.items) }
 {
     let keys = store.keys_at(alloc, place)?;
     let lens = write_texts(all, alloc, names, keys.as_slice())?;
@@ -152,29 +134,18 @@ fn texts_at<'a, S: TreeStore>(
 }
 
 /// The part of one kind at a key, if there is one.
-fn part_at<'a, S: TreeStore>(
-    store: &'a S,
-    place: Place,
-    at: &[Tagged],
-    kind: Kind,
-    key: &'a Key,
-    hint: Hint,
-) -> Option<Part<'a>>
-    requires there { HasPlace at.now (S.tree store.now) }
-    requires named { S.names store.now place at.now }
-    ensures shown { (names : List (List ℕ)) → option_map (part_data names (here at.now (S.tree store.now))) result
-        ≡ find key_cmp key.now (shown_in names kind (here at.now (S.tree store.now))) }
-    ensures part { IfSome result (IsPartAt (S.names store.now) at.now (here at.now (S.tree store.now))) }
+fn part_at<'a, S: TreeStore>(store: &'a S, kind: Kind, key: KeyAt<'_>) -> Option<Part<'a>>
+    requires { (at : List AnyTagged) × S.names store.now key.place at }
+    ensures shown { (at : List AnyTagged) → S.names store.now key.entry.place at → (names : List (List ℕ))
+        → option_map (part_data names (by_place (S.path store.now) (S.tree store.now))) result
+        ≡ find key_cmp key.entry.key.now (shown_in names kind (here at (S.tree store.now))) }
+    ensures part { (at : List AnyTagged) → S.names store.now key.entry.place at
+        → IfSome result (IsPartAt (S.names store.now) (at ++ tag_of kind key.entry.key.now ∷ [])) }
 {
+    let KeyAt { place, key, hint } = key;
     match kind {
-        Kind::List => {
-            let child = store.list_by(place, key, hint)?;
-            Some(Part::Child(Branch::List, key, child))
-        }
-        Kind::Map => {
-            let child = store.map_by(place, key, hint)?;
-            Some(Part::Child(Branch::Map, key, child))
-        }
+        Kind::List => Some(Part::Child(store.list_by(place, key, hint)?)),
+        Kind::Map => Some(Part::Child(store.map_by(place, key, hint)?)),
         Kind::Next => Some(Part::Link(store.step_by(place, key, hint).next?)),
         Kind::Presence => Some(Part::Presence(store.presence_by(place, key, hint)?)),
         Kind::Register => Some(Part::Register(store.register_by(place, key, hint)?)),
@@ -199,19 +170,23 @@ fn members_of<'a, S: TreeStore>(
     alloc: Global,
     store: &'a S,
     place: Place,
-    at: &[Tagged],
     kind: Kind,
     texts: &'a Texts<'_>,
 ) -> Result<Vec<Member<'a>>, AllocError>
-    requires there { HasPlace at.now (S.tree store.now) }
-    requires named { S.names store.now place at.now }
+    requires named { (at : List AnyTagged) × S.names store.now place at }
     requires order { AreInOrder texts.now.items }
-    ensures { IfOk result (λ members. AreMembersOfKind (S.names store.now) at.now (here at.now (S.tree store.now))
-        kind texts.now.items members.items) }
+    ensures { (at : List AnyTagged) → S.names store.now place at → IfOk result (λ members.
+        AreMembersOfKind (S.names store.now) (by_place (S.path store.now) (S.tree store.now)) at
+        (here at (S.tree store.now)) kind texts.now.items members.items) }
 {
     let mut members = Vec::new(alloc);
     for (text, lent) in texts.as_slice() {
-        if let Some(part) = part_at(store, place, at, kind, lent.0, lent.1) {
+        let key = KeyAt {
+            place,
+            key: lent.0,
+            hint: lent.1,
+        };
+        if let Some(part) = part_at(store, kind, key) {
             let text = text.0;
             put_last(&mut members, Member { kind, text, part })?;
         }
@@ -224,92 +199,69 @@ fn members_at<'a, S: TreeStore>(
     alloc: Global,
     store: &'a S,
     place: Place,
-    at: &[Tagged],
     texts: &'a Texts<'_>,
 ) -> Result<Vec<Member<'a>>, AllocError>
-    requires there { HasPlace at.now (S.tree store.now) }
-    requires named { S.names store.now place at.now }
+    requires named { (at : List AnyTagged) × S.names store.now place at }
     requires order { AreInOrder texts.now.items }
-    ensures { IfOk result (λ members. (names : List (List ℕ))
-        → AreTextsOf names (here at.now (S.tree store.now)) texts.now.items
-        → AreMembersOf (S.names store.now) at.now names (here at.now (S.tree store.now)) members.items) }
+    ensures { (at : List AnyTagged) → S.names store.now place at → IfOk result (λ members. (names : List (List ℕ))
+        → AreTextsOf names (here at (S.tree store.now)) texts.now.items
+        → AreMembersOf (S.names store.now) (by_place (S.path store.now) (S.tree store.now)) at
+        names (here at (S.tree store.now)) members.items) }
 {
-    let mut members = members_of(alloc, store, place, at, Kind::List, texts)?;
-    members.append(&mut members_of(alloc, store, place, at, Kind::Map, texts)?)?;
-    members.append(&mut members_of(alloc, store, place, at, Kind::Next, texts)?)?;
-    members.append(&mut members_of(alloc, store, place, at, Kind::Presence, texts)?)?;
-    members.append(&mut members_of(alloc, store, place, at, Kind::Register, texts)?)?;
+    let mut members = members_of(alloc, store, place, Kind::List, texts)?;
+    members.append(&mut members_of(alloc, store, place, Kind::Map, texts)?)?;
+    members.append(&mut members_of(alloc, store, place, Kind::Next, texts)?)?;
+    members.append(&mut members_of(alloc, store, place, Kind::Presence, texts)?)?;
+    members.append(&mut members_of(alloc, store, place, Kind::Register, texts)?)?;
     Ok(members)
 }
 
-/// Goes on to the child at a key.
-fn step_down(at: &mut Vec<Tagged>, branch: Branch, key: &Key) -> Result<(), AllocError>
-    ensures { OnOk result (at.new.items ≡ at.old.items ++ tag_of branch key.now ∷ []) }
-{
-    at.push(branch.tagged(key.copy()?))?;
-    Ok(())
-}
-
-/// Sends the context at a place of a store. Afterwards the path is as it was, unless memory ran out.
+/// Sends the context at a place of a tree's store.
 #[cycle(walk)]
 fn send_tree<S: TreeStore, W: Serializer>(
-    alloc: Global,
-    names: &[Text],
-    store: &S,
+    tree: &Tree<'_, S>,
     place: Place,
-    at: &mut Vec<Tagged>,
     out: &mut W,
 ) -> Result<(), W::Error>
-    requires there { HasPlace at.old.items (S.tree store.now) }
-    requires named { S.names store.now place at.old.items }
-    ensures sent { OnOk result (SendsValue (context_data names.now (here at.old.items (S.tree store.now)))
+    requires { (at : List AnyTagged) × S.names tree.now.store.now place at }
+    ensures { (at : List AnyTagged) → S.names tree.now.store.now place at → OnOk result
+        (SendsValue (context_data tree.now.names.now (here at (S.tree tree.now.store.now)))
         (W.written out.old) (W.written out.new)) }
-    ensures path { OnOk result (at.new.items ≡ at.old.items) }
 {
-    let mut all = String::new(alloc);
+    let mut all = String::new(tree.alloc);
     let texts = granted(
-        texts_at(alloc, names, store, place, at.as_slice(), &mut all),
+        texts_at(tree.alloc, tree.names, tree.store, place, &mut all),
         out,
     )?;
-    let members = granted(members_at(alloc, store, place, at.as_slice(), &texts), out)?;
-    let mut name = String::new(alloc);
+    let members = granted(members_at(tree.alloc, tree.store, place, &texts), out)?;
+    let mut name = String::new(tree.alloc);
     out.begin_map(Some(members.len()))?;
     for member in members.as_slice() {
         granted(member.write_name(&mut name), out)?;
         out.key(name.as_str())?;
-        send_part(alloc, names, store, at, member.part, out)?;
+        send_part(tree, member.part, out)?;
     }
     out.end_map()
 }
 
-/// Sends a part of the context at a place.
+/// Sends a part of a context.
 #[cycle(walk)]
 fn send_part<S: TreeStore, W: Serializer>(
-    alloc: Global,
-    names: &[Text],
-    store: &S,
-    at: &mut Vec<Tagged>,
+    tree: &Tree<'_, S>,
     part: Part<'_>,
     out: &mut W,
 ) -> Result<(), W::Error>
-    requires there { HasPlace at.old.items (S.tree store.now) }
-    requires part { IsPartAt (S.names store.now) at.old.items (here at.old.items (S.tree store.now)) part }
-    ensures sent { OnOk result (SendsValue (part_data names.now (here at.old.items (S.tree store.now)) part.entry)
+    requires { (at : List AnyTagged) × IsPartAt (S.names tree.now.store.now) at part }
+    ensures { OnOk result
+        (SendsValue (part_data tree.now.names.now (by_place (S.path tree.now.store.now) (S.tree tree.now.store.now)) part.entry)
         (W.written out.old) (W.written out.new)) }
-    ensures path { OnOk result (at.new.items ≡ at.old.items) }
 {
     match part {
-        Part::Child(branch, key, place) => {
-            let depth = at.len();
-            granted(step_down(at, branch, key), out)?;
-            send_tree(alloc, names, store, place, at, out)?;
-            at.truncate(depth);
-            Ok(())
-        }
-        Part::Register(pairs) => send_register(alloc, names, pairs, out),
-        Part::Presence(ids) => send_ids(alloc, names, ids, out),
+        Part::Child(place) => send_tree(tree, place, out),
+        Part::Register(pairs) => send_register(tree.alloc, tree.names, pairs, out),
+        Part::Presence(ids) => send_ids(tree.alloc, tree.names, ids, out),
         Part::Link(next) => {
-            let text = granted(next_text(alloc, names, next), out)?;
+            let text = granted(next_text(tree.alloc, tree.names, next), out)?;
             out.str(text.as_str())
         }
     }
@@ -329,8 +281,6 @@ impl<S: TreeStore> Described for Tree<'_, S> {
 
 impl<S: TreeStore> Serialize for Tree<'_, S> {
     fn serialize<W: Serializer>(&self, out: &mut W) -> Result<(), W::Error> {
-        let mut at = Vec::new(self.alloc);
-        let root = self.store.root();
-        send_tree(self.alloc, self.names, self.store, root, &mut at, out)
+        send_tree(self, self.store.root(), out)
     }
 }

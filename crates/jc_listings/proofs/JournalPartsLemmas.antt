@@ -138,23 +138,9 @@ twins_after first second third fourth last event rows t step begins follows new 
       second_new = new;
     }
 
--- where the first is as it was, both are
-pub twins_stay : (first second now : NetworkHistory) → AreTwins first second → now ≡ first → AreTwins now second
-twins_stay first second now t same = subst (λ (c : NetworkHistory). AreTwins c second) (sym same) t
-
 -- the step, as seen where nothing is kept any more
 pub step_begun : (first third last : NetworkHistory) (event : Event) (rows : List (Rule × ℕ)) → StepIn first.history.now event third.history.now rows → last ≡ record third { history = begun third.history.now } → StepIn first.history.now event last.history.now rows
 step_begun first third last event rows step begins = subst (λ (n : Network). StepIn first.history.now event n rows) (sym (ap (λ (k : NetworkHistory). k.history.now) begins)) step
-
-pub names_begun : (first third last : NetworkHistory) → third.names ≡ first.names → last ≡ record third { history = begun third.history.now } → last.names ≡ first.names
-names_begun first third last same begins = ap (λ (k : NetworkHistory). k.names) begins ∙ same
-
-pub behind_none : (s : Scenario) (n : Networks) → IsBeforeGiven s.version s.names s.scripts n.first → IsBeforeGiven s.version s.names s.scripts n.second → (schedule : List Event) → AreBehind s schedule 0 n
-behind_none s n a b schedule = record {
-  is_at = record { within = omega arith; after = sym a.network };
-  twins = record { same = b.network ∙ sym a.network; first_new = a.earlier; second_new = b.earlier };
-  names = a.called;
-}
 
 is_at_more : (s : Scenario) (schedule : List Event) (count : ℕ) (N M : Network) (event : Event) (rows : List (Rule × ℕ)) → IsAt s schedule count N → slice_get (all_events s schedule) count ≡ Some event → StepIn N event M rows → IsAt s schedule (count + 1) M
 is_at_more s schedule count N M event rows at is step =
@@ -170,10 +156,6 @@ behind_more s schedule count old new event b is step twins names = record {
   twins = twins;
   names = names ∙ b.names;
 }
-
-pub unreached_at : (s : Scenario) (schedule : List Event) (stop count : ℕ) (old : Networks) (event : Event) → stop < count → AreBehind s schedule stop old → slice_get (all_events s schedule) stop ≡ Some event → ((why : Cause) × IsStuckIn old.first.history.now event why) → IsUnreached s schedule count
-unreached_at s schedule stop count old event before b is stops =
-    record { stop = stop; network = old.first.history.now; event = event; why = stops.0; before = before; stops = record { is_at = b.is_at; is = is; stuck = stops.1 } }
 
 -- ---- names
 

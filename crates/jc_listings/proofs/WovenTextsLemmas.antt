@@ -58,13 +58,6 @@ more_ends all names made ends p n m e a text in_names in_made in_ends is h =
     subst (λ k. EndsGoOn all names made ends k a) one
     (subst (HasItems a) (ap (λ t. end_answers all (take p names) (take p made) (take p ends) ++ t ∷ []) is ∙ sym (next_end all names made ends p n m e in_names in_made in_ends)) h)
 
-pub all_ends : (all names : List (List ℕ)) (made : List ℕ) (ends : List End) (p : ℕ) (a : ArrayText) → length names ≤ p → length made ≤ p → length ends ≤ p → EndsGoOn all names made ends p a → HasItems a (end_answers all names made ends)
-all_ends all names made ends p a in_names in_made in_ends h =
-    let ns = take_all p names in_names in
-    let ms = take_all p made in_made in
-    let es = take_all p ends in_ends in
-    subst (HasItems a) (λ i. end_answers all (ns i) (ms i) (es i)) h
-
 -- ---- woven schedules
 
 named_end : (names : List (List ℕ)) (end : End) → IsEndOfReplicas (length names) end → IsNamedEnd names end

@@ -1,46 +1,41 @@
 -- About Compared: two contexts are the same, but for empty presence sets, where they are the same under each key.
 -- The proofs of `sameness` use it.
-use Rattle.std.proofs.Common.{◌≡◌, ◌≢◌, ◌<◌, List, [], ◌∷◌, ◌++◌, Bool, true, false, cond, Option, Some, None, is_some, IsTrue, not, ◌↔◌, filter, refl, sym, ◌∙◌, ap, subst}
-use Rattle.std.specs.List.{AllByRecursion}
-use Rattle.std.specs.Ordering.{is_lt}
-use Rattle.std.specs.declared.cmp.Ordering.{Ordering}
-use Rattle.std.specs.declared.cmp.Ordering.TheVariants.{Less, Equal, Greater}
+use Rattle.std.proofs.Common.{◌≡◌, ◌⊎◌, inl, inr, ℕ, suc, ◌<◌, ◌≤◌, zero-le, length, get_or, ◌+◌, List, [], ◌∷◌, ◌++◌, Bool, true, false, ◌||◌, cond, Option, Some, None, is_some, IfSome, option_map, ◌↔◌, Contains, Bor, All, refl, sym, ◌∙◌, ap, subst}
+use Rattle.std.specs.List.{AllByRecursion, AllWithin}
 use Rattle.std.proofs.lemmas.Option.{same_Some}
+use Rattle.std.proofs.lemmas.List.Elements.{All-map, All-contains, All-from_all_within, AllWithin-upto, AllWithin-more, at_read}
 use Rattle.jc_rules.specs.declared.id.Id.{Id}
 use Rattle.jc_rules.specs.declared.key.Key.{Key}
-use Rattle.jc_rules.specs.declared.key.Next.{Next}
 use Rattle.jc_rules.specs.declared.key.Tagged.{Tagged}
 use Rattle.jc_rules.specs.declared.key.Tagged.TheVariants.{MapT, ListT, RegT}
 use Rattle.jc_rules.specs.Order.{key_cmp, same_key}
 use Rattle.jc_rules.specs.Entries.{find, keys_of}
 use Rattle.jc_rules.specs.Ids.{has_id}
-use Rattle.jc_rules.specs.Context.{Context, context, Children, no_child, child, listed, maps, lists, registers, presences, links, Register, Content, Node, Values, node_of, values_of, content, next, keys, key_of_tagged}
+use Rattle.jc_rules.specs.Context.{Context, context, Children, no_child, child, listed, maps, lists, registers, presences, links, Register, Content, Node, Values, node_of, values_of, content, presence, next, keys, key_of_tagged}
 use Rattle.jc_rules.specs.Paths.{HasContext}
 use Rattle.jc_rules.specs.ContextsAt.{node_at, node_in, or_empty}
 use Rattle.jc_rules.specs.WellFormed.{IsWellFormedContext, drop, drop_all}
-use Rattle.jc_rules.specs.Table.{is_done, least, lesser}
-use Rattle.std.specs.Ordering.{match_ordering}
-use Rattle.jc_rules.proofs.RisingLemmas as rising
-use Rattle.jc_meaning.proofs.ClearingEffectsLemmas.{tag_of_key}
+use Rattle.jc_rules.specs.Table.{is_done}
 use Rattle.jc_rules.proofs.OrderLemmas.{keys_total, exact_keys}
+use Rattle.jc_rules.proofs.BoolLemmas.{none_of, neither, or_cases}
 use Rattle.jc_rules.proofs.ContextsAtLemmas.{there, node-below}
-use Rattle.jc_rules.proofs.BoolLemmas.{none_of}
-use Rattle.jc_tree.specs.Tree.{Tree, HasPlace, here, is_after, least_after}
+use Rattle.jc_tree.specs.declared.store.Place.{Place}
+use Rattle.jc_tree.specs.Tree.{Tree, HasPlace, here, all_keys, keys_lent, has_ids, or_no_entries}
 use Rattle.jc_tree.specs.Nested.{nested}
 use Rattle.jc_tree.proofs.PlacesLemmas.{some_place}
 use Rattle.jc_tree.proofs.WellFormedLemmas.{kept-node}
 use Rattle.jc_clear.proofs.BareLemmas.{nested_below}
-use Rattle.jc_tree.proofs.WalksLemmas.{IsNext, next_is, none_is}
-use Rattle.jc_meaning.specs.Compared.{Both, SameTree, IsSameNode, IsSameKey, HasPresence, ArePresencesSame, HasLink, AreLinksSame}
+use Rattle.jc_meaning.specs.Compared.{Both, SameTree, IsSameKey, stands, HasKeys}
 use Rattle.jc_meaning.specs.Seen.{ids_of_some, ids_at, has_tag}
 use Rattle.jc_meaning.specs.ClearingEffects.{is_tagged}
+use Rattle.jc_meaning.proofs.ClearingEffectsLemmas.{tag_of_key}
 use Rattle.jc_meaning.proofs.ComparedLemmas.{dropped, same_presences}
 use Rattle.jc_meaning.proofs.ClearingEffectsInductionLemmas.{tagged_done, done_found}
-use Rattle.jc_meaning.proofs.DroppedLemmas.{dropped_child, found_child, ids_dropped}
-use Rattle.jc_meaning.proofs.OrdersLemmas.{keys_eq, keys_self}
+use Rattle.jc_meaning.proofs.DroppedLemmas.{dropped_child, found_child, ids_dropped, next_dropped}
+use Rattle.jc_meaning.proofs.OrdersLemmas.{keys_eq}
 use Rattle.jc_meaning.proofs.SameKeysLemmas.{Zipped, zipped, same_entries}
 
--- ---- the walk over the keys of a context
+-- ---- the keys under which something stands
 
 pub in_all : (P : Key → Type 0) (ks : List Key) (k : Key) → AllByRecursion P ks → is_done ks k ≡ true → P k
 in_all P [] k h e = cc
@@ -50,49 +45,47 @@ in_all P (j ∷ js) k h e = go (same_key j k) refl e (in_all P js k h.1)
     go true x y f = subst P (keys_eq j k x) h.0
     go false x y f = f y
 
--- where Q holds of all keys that aren't there, and of those that the walk has passed
-module _ (Q : Key → Type 0) (ks : List Key) (absent : (k : Key) → is_done ks k ≡ false → Q k) where
-  abbrev pub Passed : Option Key → Type 0
-  Passed last = (k : Key) → is_after last k ≡ false → Q k
+both_parts : (P : Key → Type 0) (ks js : List Key) → AllByRecursion P (ks ++ js) → AllByRecursion P ks × AllByRecursion P js
+both_parts P [] js h = (tt, h)
+both_parts P (k ∷ ks) js h = let r = both_parts P ks js h.1 in ((h.0, r.0), r.1)
 
-  pub goes_on : (last : Option Key) (key : Key) → least_after last ks ≡ Some key → Q key → Passed last → Passed (Some key)
-  goes_on last key e q old k f = go (is_after last k) refl (is_done ks k) refl
-    where
-      n : IsNext last ks key
-      n = next_is last ks key e
+in_all_keys : (P : Key → Type 0) (c : Context) (k : Key) → AllByRecursion P (all_keys c) → stands c k ≡ true → P k
+in_all_keys P c k h e = first (or_cases (has_ids (or_no_entries (presence k c))) (is_some (next k c) || is_tagged k c) e)
+  where
+    but_links : AllByRecursion P (keys c ++ keys_of (presences c)) × AllByRecursion P (keys_of (links c))
+    but_links = both_parts P (keys c ++ keys_of (presences c)) (keys_of (links c)) h
 
-      at : (o : Ordering) → key_cmp key k ≡ o → o ≢ Greater → is_lt o ≡ false → Q k
-      at Less x w y = cc
-      at Equal x w y = subst Q (exact_keys key k x) q
-      at Greater x w y = absurd (w refl)
+    tagged : AllByRecursion P (keys c) × AllByRecursion P (keys_of (presences c))
+    tagged = both_parts P (keys c) (keys_of (presences c)) but_links.0
 
-      go : (b : Bool) → is_after last k ≡ b → (d : Bool) → is_done ks k ≡ d → Q k
-      go false x d y = old k x
-      go true x false y = absent k y
-      go true x true y = at (key_cmp key k) refl (in_all (λ j. is_after last j ≡ true → key_cmp key j ≢ Greater) ks k n.below y x) f
+    under : {X : Type 0} (es : List (Key × X)) → AllByRecursion P (keys_of es) → is_some (find key_cmp k es) ≡ true → P k
+    under es g f = in_all P (keys_of es) k g (done_found es k ∙ f)
 
-  pub ends : (last : Option Key) → least_after last ks ≡ None → Passed last → (k : Key) → Q k
-  ends last e old k = go (is_done ks k) refl
-    where
-      go : (d : Bool) → is_done ks k ≡ d → Q k
-      go false y = absent k y
-      go true y = old k (in_all (λ j. is_after last j ≡ false) ks k (none_is last ks e) y)
+    some_ids : (o : Option (List Id)) → has_ids (or_no_entries o) ≡ true → is_some o ≡ true
+    some_ids None f = cc
+    some_ids (Some s) f = refl
 
-not_found : {X : Type 0} (es : List (Key × X)) (k : Key) → is_done (keys_of es) k ≡ false → find key_cmp k es ≡ None
-not_found es k e = none_of (find key_cmp k es) (sym (done_found es k) ∙ e)
+    second : (is_some (next k c) ≡ true) ⊎ (is_tagged k c ≡ true) → P k
+    second (inl f) = under (links c) but_links.1 f
+    second (inr f) = in_all P (keys c) k tagged.0 (sym (tagged_done k c) ∙ f)
 
-pub no_link : (c d : Context) (k : Key) → is_done (keys_of (links c)) k ≡ false → HasLink c d k
-no_link c d k e n f = let none : None ≡ Some n = sym (not_found (links c) k e) ∙ f in cc
+    first : (has_ids (or_no_entries (presence k c)) ≡ true) ⊎ (is_some (next k c) || is_tagged k c ≡ true) → P k
+    first (inl f) = under (presences c) tagged.1 (some_ids (presence k c) f)
+    first (inr f) = second (or_cases (is_some (next k c)) (is_tagged k c) f)
 
-pub no_presence : (c d : Context) (k : Key) → is_done (keys_of (presences c)) k ≡ false → HasPresence c d k
-no_presence c d k e f = absurd (f (ap ids_of_some (not_found (presences c) k e)))
+-- ---- a walk over the keys that a store lends
+
+pub one_more : {X : Type 0} (P : Key → Type 0) (lent : List (Bor Key × X)) (n : ℕ) (l : Bor Key × X) → n < length lent → l ≡ get_or lent n l → P l.0.now → AllWithin (λ l. P l.0.now) lent 0 n → AllWithin (λ l. P l.0.now) lent 0 (n + 1)
+one_more P lent n l h e p each = AllWithin-more (λ l. P l.0.now) lent 0 n each (at_read lent (λ l. P l.0.now) n l h e p)
+
+-- what is true of each key of the walk is true of each key of the context under which something stands
+pub at_keys : {X : Type 0} (P : Key → Type 0) (lent items : List (Bor Key × X)) (n : ℕ) (c : Context) → lent ≡ items → AllByRecursion (Contains (keys_lent items)) (all_keys c) → length lent ≤ n → AllWithin (λ l. P l.0.now) lent 0 n → (k : Key)
+    → stands c k ≡ true → P k
+at_keys P lent items n c e all end each k s =
+    let every : All (λ l. P l.0.now) lent = All-from_all_within (λ l. P l.0.now) lent (AllWithin-upto (λ l. P l.0.now) lent 0 n (length lent) end each) in
+    All-contains P (keys_lent items) k (All-map P (λ l. l.0.now) items (rw (← e) every)) (in_all_keys (Contains (keys_lent items)) c k all s)
 
 -- ---- together
-
-same_ids_of : (s t : List Id) → (s ≢ [] → s ≡ t) → (t ≢ [] → t ≡ s) → s ≡ t
-same_ids_of [] [] f g = refl
-same_ids_of (i ∷ is) t f g = f (λ e. cc)
-same_ids_of [] (i ∷ is) f g = sym (g (λ e. cc))
 
 both_nodes : (x y : Option Context) → Both SameTree (node_in (node_of x)) (node_in (node_of y)) → Both SameTree x y
 both_nodes None None b = tt
@@ -106,22 +99,16 @@ same_children no_child (child k d ds) z = absurd z
 same_children (child j c cs) no_child z = absurd z
 same_children (child j c cs) (child k d ds) z = let r = same_children cs ds z.2 in λ i. child (z.0 i) (z.1 i) (r i)
 
-pub presences_both : (c d : Context) → ((k : Key) → HasPresence c d k) → ((k : Key) → HasPresence d c k) → ArePresencesSame c d
-presences_both c d f g k = same_ids_of (ids_at k c) (ids_at k d) (f k) (g k)
-
-pub together : (c d : Context) → IsWellFormedContext c → IsWellFormedContext d → AreLinksSame c d → ArePresencesSame c d → ((k : Key) → IsSameKey c d k) → SameTree c d
-together (context m l r p n) (context m2 l2 r2 p2 n2) h g links ids same =
+together : (c d : Context) → IsWellFormedContext c → IsWellFormedContext d → ((k : Key) → IsSameKey c d k) → SameTree c d
+together (context m l r p n) (context m2 l2 r2 p2 n2) h g same =
     let ms : drop_all m ≡ drop_all m2 = same_children m m2 (zipped keys_total exact_keys SameTree (listed m) (listed m2) h.0 g.0 (λ k. both_nodes (find key_cmp k (listed m)) (find key_cmp k (listed m2)) (same k).maps)) in
     let ls : drop_all l ≡ drop_all l2 = same_children l l2 (zipped keys_total exact_keys SameTree (listed l) (listed l2) h.1 g.1 (λ k. both_nodes (find key_cmp k (listed l)) (find key_cmp k (listed l2)) (same k).lists)) in
-    let rs : r ≡ r2 = same_entries keys_total exact_keys r r2 h.2 g.2 (λ k. (same k).registers) in
-    let ps : dropped p ≡ dropped p2 = same_presences p p2 h.3 g.3 h.6 g.6 (λ k i. ap (has_id i) (ids k)) in
-    let ns : n ≡ n2 = same_entries keys_total exact_keys n n2 h.4 g.4 links in
+    let rs : r ≡ r2 = same_entries keys_total exact_keys r r2 h.2 g.2 (λ k. (same k).entries.registers) in
+    let ps : dropped p ≡ dropped p2 = same_presences p p2 h.3 g.3 h.6 g.6 (λ k i. ap (has_id i) (same k).entries.presences) in
+    let ns : n ≡ n2 = same_entries keys_total exact_keys n n2 h.4 g.4 (λ k. (same k).entries.links) in
     λ i. context (ms i) (ls i) (rs i) (ps i) (ns i)
 
 -- ---- apart
-
-pub presences_same : (c d : Context) → IsWellFormedContext c → IsWellFormedContext d → SameTree c d → ArePresencesSame c d
-presences_same c d h g e k = sym (ids_dropped k c h) ∙ ap (ids_at k) e ∙ ids_dropped k d g
 
 map_dropped : (k : Key) (c : Context) → node_in (content (MapT k) (drop c)) ≡ dropped_child (node_in (content (MapT k) c))
 unfolding dropped_child
@@ -149,15 +136,19 @@ both_dropped (Some c) None e = cc
 registers_dropped : (k : Key) (c : Context) → find key_cmp k (registers (drop c)) ≡ find key_cmp k (registers c)
 registers_dropped k (context m l r p n) = refl
 
-pub keys_same : (c d : Context) → SameTree c d → (k : Key) → IsSameKey c d k
-keys_same c d e k =
+pub keys_same : (c d : Context) → IsWellFormedContext c → IsWellFormedContext d → SameTree c d → (k : Key) → IsSameKey c d k
+keys_same c d h g e k =
     record {
       maps = both_dropped (node_in (content (MapT k) c)) (node_in (content (MapT k) d)) (sym (map_dropped k c) ∙ ap (λ x. node_in (content (MapT k) x)) e ∙ map_dropped k d);
       lists = both_dropped (node_in (content (ListT k) c)) (node_in (content (ListT k) d)) (sym (list_dropped k c) ∙ ap (λ x. node_in (content (ListT k) x)) e ∙ list_dropped k d);
-      registers = sym (registers_dropped k c) ∙ ap (λ x. find key_cmp k (registers x)) e ∙ registers_dropped k d;
+      entries = record {
+        registers = sym (registers_dropped k c) ∙ ap (λ x. find key_cmp k (registers x)) e ∙ registers_dropped k d;
+        presences = sym (ids_dropped k c h) ∙ ap (ids_at k) e ∙ ids_dropped k d g;
+        links = sym (next_dropped k c) ∙ ap (next k) e ∙ next_dropped k d;
+      };
     }
 
--- ---- the next key is the same in both
+-- ---- where something stands under a key in both, and where nothing does
 
 some_both : (x y : Option Context) → Both SameTree x y → is_some x ≡ is_some y
 some_both None None b = refl
@@ -173,80 +164,47 @@ tagged_same : (c d : Context) (k : Key) → IsSameKey c d k → is_tagged k c �
 tagged_same c d k s =
     let ms : has_tag (MapT k) c ≡ has_tag (MapT k) d = sym (some_node (find key_cmp k (maps c))) ∙ some_both (node_in (content (MapT k) c)) (node_in (content (MapT k) d)) s.maps ∙ some_node (find key_cmp k (maps d)) in
     let ls : has_tag (ListT k) c ≡ has_tag (ListT k) d = sym (some_node (find key_cmp k (lists c))) ∙ some_both (node_in (content (ListT k) c)) (node_in (content (ListT k) d)) s.lists ∙ some_node (find key_cmp k (lists d)) in
-    let rs : has_tag (RegT k) c ≡ has_tag (RegT k) d = ap (λ o. is_some (values_of o)) s.registers in
+    let rs : has_tag (RegT k) c ≡ has_tag (RegT k) d = ap (λ o. is_some (values_of o)) s.entries.registers in
     rw (ms, ls, rs) refl
 
-done_same : (c d : Context) → ((k : Key) → IsSameKey c d k) → (k : Key) → is_done (keys c) k ≡ is_done (keys d) k
-done_same c d s k = sym (tagged_done k c) ∙ tagged_same c d k (s k) ∙ tagged_done k d
-
--- a key that is next in a list is in it
-least_in : (f : Key → Bool) (ks : List Key) (k : Key) → least (filter f ks) ≡ Some k → is_done ks k ≡ true
-least_in f [] k h = cc
-least_in f (j ∷ js) k h = go (f j) refl (least_in f js k) h
+stands_same : (c d : Context) (k : Key) → IsSameKey c d k → stands c k ≡ stands d k
+stands_same c d k s =
+    let ids : has_ids (or_no_entries (presence k c)) ≡ has_ids (or_no_entries (presence k d)) = ap has_ids (as_ids (presence k c) ∙ s.entries.presences ∙ sym (as_ids (presence k d))) in
+    let links : is_some (next k c) ≡ is_some (next k d) = ap is_some s.entries.links in
+    let tagged : is_tagged k c ≡ is_tagged k d = tagged_same c d k s in
+    λ i. ids i || (links i || tagged i)
   where
-    here : j ≡ k → is_done (j ∷ js) k ≡ true
-    here e = ap (λ b. cond b true (is_done js k)) (subst (λ q. same_key j q ≡ true) e (keys_self j))
+    as_ids : (o : Option (List Id)) → or_no_entries o ≡ ids_of_some o
+    as_ids None = refl
+    as_ids (Some s) = refl
 
-    later : is_done js k ≡ true → is_done (j ∷ js) k ≡ true
-    later e = both (same_key j k)
-      where
-        both : (b : Bool) → cond b true (is_done js k) ≡ true
-        both true = refl
-        both false = e
+-- what is under a key under which nothing stands
+record IsBare (c : Context) (k : Key) : Type 0 where
+  ids : ids_at k c ≡ []
+  link : next k c ≡ None
+  tags : is_tagged k c ≡ false
 
-    two : (q : Key) (o : Ordering) → (Some q ≡ Some k → is_done js k ≡ true) → match_ordering o (Some j) (Some j) (Some q) ≡ Some k → is_done (j ∷ js) k ≡ true
-    two q Less ih g = here (same_Some j k g)
-    two q Equal ih g = here (same_Some j k g)
-    two q Greater ih g = later (ih g)
-
-    pick : (o : Option Key) → (o ≡ Some k → is_done js k ≡ true) → lesser j o ≡ Some k → is_done (j ∷ js) k ≡ true
-    pick None ih g = here (same_Some j k g)
-    pick (Some q) ih g = two q (key_cmp j q) ih g
-
-    go : (x : Bool) → f j ≡ x → (least (filter f js) ≡ Some k → is_done js k ≡ true) → least (filter f (j ∷ js)) ≡ Some k → is_done (j ∷ js) k ≡ true
-    go true e ih g = pick (least (filter f js)) ih (rw e at g)
-    go false e ih g = later (ih (rw e at g))
-
-next_done : (last : Option Key) (ks : List Key) (k : Key) → least_after last ks ≡ Some k → is_done ks k ≡ true
-next_done last ks k e = least_in (λ j. is_after last j) ks k e
-
-pub next_same : (c d : Context) → ((k : Key) → IsSameKey c d k) → (last : Option Key) → least_after last (keys c) ≡ least_after last (keys d)
-next_same c d s last = go (least_after last (keys c)) (least_after last (keys d)) refl refl
+bare : (c : Context) (k : Key) → stands c k ≡ false → IsBare c k
+bare c k e =
+    let x = neither (has_ids (or_no_entries (presence k c))) (is_some (next k c) || is_tagged k c) e in
+    let y = neither (is_some (next k c)) (is_tagged k c) x.1 in
+    record { ids = no_ids (presence k c) x.0; link = none_of (next k c) y.0; tags = y.1 }
   where
-    none : (ks js : List Key) → ((k : Key) → is_done js k ≡ is_done ks k) → least_after last ks ≡ None → (k : Key) → least_after last js ≡ Some k → ⊥
-    none ks js same e k f =
-        let n : IsNext last js k = next_is last js k f in
-        let out : is_after last k ≡ false = in_all (λ j. is_after last j ≡ false) ks k (none_is last ks e) (sym (same k) ∙ next_done last js k f) in
-        let z : true ≡ false = sym n.after ∙ out in
-        cc
+    no_ids : (o : Option (List Id)) → has_ids (or_no_entries o) ≡ false → ids_of_some o ≡ []
+    no_ids None e = refl
+    no_ids (Some []) e = refl
+    no_ids (Some (i ∷ is)) e = cc
 
-    not_below : (ks js : List Key) → ((k : Key) → is_done js k ≡ is_done ks k) → (j k : Key) → least_after last ks ≡ Some j → least_after last js ≡ Some k → key_cmp j k ≢ Greater
-    not_below ks js same j k e f =
-        let n : IsNext last ks j = next_is last ks j e in
-        let m : IsNext last js k = next_is last js k f in
-        in_all (λ i. is_after last i ≡ true → key_cmp j i ≢ Greater) ks k n.below (sym (same k) ∙ next_done last js k f) m.after
-
-    one : (j k : Key) → key_cmp j k ≢ Greater → key_cmp k j ≢ Greater → j ≡ k
-    one j k v w = at (key_cmp j k) refl
-      where
-        at : (o : Ordering) → key_cmp j k ≡ o → j ≡ k
-        at Less x = absurd (w (rising.less_greater keys_total j k x))
-        at Equal x = exact_keys j k x
-        at Greater x = absurd (v x)
-
-    go : (x y : Option Key) → least_after last (keys c) ≡ x → least_after last (keys d) ≡ y → x ≡ y
-    go None None e f = refl
-    go None (Some k) e f = absurd (none (keys c) (keys d) (λ i. sym (done_same c d s i)) e k f)
-    go (Some j) None e f = absurd (none (keys d) (keys c) (done_same c d s) f j e)
-    go (Some j) (Some k) e f = ap Some (one j k (not_below (keys c) (keys d) (λ i. sym (done_same c d s i)) j k e f) (not_below (keys d) (keys c) (done_same c d s) k j f e))
-
--- nothing stands under a key without a tag
-no_key : (c d : Context) (k : Key) → is_done (keys c) k ≡ false → is_done (keys d) k ≡ false → IsSameKey c d k
-no_key c d k e f =
+none_same : (c d : Context) (k : Key) → IsBare c k → IsBare d k → IsSameKey c d k
+none_same c d k x y =
     record {
-      maps = both_none (node_in (content (MapT k) c)) (node_in (content (MapT k) d)) (absent (MapT k) c (tagged_done k c ∙ e)) (absent (MapT k) d (tagged_done k d ∙ f));
-      lists = both_none (node_in (content (ListT k) c)) (node_in (content (ListT k) d)) (absent (ListT k) c (tagged_done k c ∙ e)) (absent (ListT k) d (tagged_done k d ∙ f));
-      registers = no_register (find key_cmp k (registers c)) (tag_of_key (RegT k) c (tagged_done k c ∙ e)) ∙ sym (no_register (find key_cmp k (registers d)) (tag_of_key (RegT k) d (tagged_done k d ∙ f)));
+      maps = both_none (node_in (content (MapT k) c)) (node_in (content (MapT k) d)) (absent (MapT k) c x.tags) (absent (MapT k) d y.tags);
+      lists = both_none (node_in (content (ListT k) c)) (node_in (content (ListT k) d)) (absent (ListT k) c x.tags) (absent (ListT k) d y.tags);
+      entries = record {
+        registers = no_register (find key_cmp k (registers c)) (tag_of_key (RegT k) c x.tags) ∙ sym (no_register (find key_cmp k (registers d)) (tag_of_key (RegT k) d y.tags));
+        presences = x.ids ∙ sym y.ids;
+        links = x.link ∙ sym y.link;
+      };
     }
   where
     absent : (t : Tagged) (x : Context) → is_tagged (key_of_tagged t) x ≡ false → node_in (content t x) ≡ None
@@ -261,39 +219,19 @@ no_key c d k e f =
     no_register None g = refl
     no_register (Some r) g = cc
 
--- ---- the walk over the tagged keys of both
+-- ---- both walks
 
--- the same stands under the key, where it is in the list
-abbrev pub SameIn : Context → Context → List Key → Key → Type 0
-SameIn c d ks k = is_done ks k ≡ true → IsSameKey c d k
-
-out_of : (c d : Context) (ks : List Key) (k : Key) → is_done ks k ≡ false → SameIn c d ks k
-out_of c d ks k e f = let z : true ≡ false = sym f ∙ e in cc
-
-abbrev pub PassedBoth : Context → Context → Option Key → Type 0
-PassedBoth c d last = ((k : Key) → is_after last k ≡ false → SameIn c d (keys c) k) × ((k : Key) → is_after last k ≡ false → SameIn c d (keys d) k)
-
-pub both_go_on : (c d : Context) (last : Option Key) (key : Key) → least_after last (keys c) ≡ Some key → least_after last (keys d) ≡ Some key → IsSameKey c d key → PassedBoth c d last → PassedBoth c d (Some key)
-both_go_on c d last key e f s old =
-    (goes_on (SameIn c d (keys c)) (keys c) (out_of c d (keys c)) last key e (λ x. s) old.0, goes_on (SameIn c d (keys d)) (keys d) (out_of c d (keys d)) last key f (λ x. s) old.1)
-
-pub both_end : (c d : Context) (last : Option Key) → least_after last (keys c) ≡ None → least_after last (keys d) ≡ None → PassedBoth c d last → (k : Key) → IsSameKey c d k
-both_end c d last e f old k = go (is_done (keys c) k) refl (is_done (keys d) k) refl
+all_same : (c d : Context) → ((k : Key) → stands c k ≡ true → IsSameKey c d k) → HasKeys c d → (k : Key) → IsSameKey c d k
+all_same c d there has k = go (stands c k) refl (stands d k) refl
   where
-    go : (x : Bool) → is_done (keys c) k ≡ x → (y : Bool) → is_done (keys d) k ≡ y → IsSameKey c d k
-    go true x y z = ends (SameIn c d (keys c)) (keys c) (out_of c d (keys c)) last e old.0 k x
-    go false x true z = ends (SameIn c d (keys d)) (keys d) (out_of c d (keys d)) last f old.1 k z
-    go false x false z = no_key c d k x z
+    go : (x : Bool) → stands c k ≡ x → (y : Bool) → stands d k ≡ y → IsSameKey c d k
+    go true e y f = there k e
+    go false e true f = let z : true ≡ false = sym (has k f) ∙ e in cc
+    go false e false f = none_same c d k (bare c k e) (bare d k f)
 
--- ---- the links of a key that is linked
-
--- a link that differs isn't the other one's
-pub links_apart : (c d : Context) (last : Option Key) (key : Key) → least_after last (keys_of (links c)) ≡ Some key → (next key c ≡ next key d → ⊥) → ((k : Key) → HasLink c d k) → ⊥
-links_apart c d last key e apart all = go (next key c) refl (sym (done_found (links c) key) ∙ next_done last (keys_of (links c)) key e)
-  where
-    go : (o : Option Next) → next key c ≡ o → is_some o ≡ true → ⊥
-    go None f g = cc
-    go (Some n) f g = apart (f ∙ sym (all key n f))
+-- Where the same stands under each key of the first, the trees are the same exactly where the second has no other key.
+pub decided : (c d : Context) → IsWellFormedContext c → IsWellFormedContext d → ((k : Key) → stands c k ≡ true → IsSameKey c d k) → HasKeys c d ↔ SameTree c d
+decided c d h g there = (λ has. together c d h g (all_same c d there has), λ e k f. stands_same c d k (keys_same c d h g e k) ∙ f)
 
 -- ---- the context below a tagged key
 
@@ -328,19 +266,41 @@ stands_below at t a place tag some = go t tag (content t (here at a)) refl some
 pub kept_here : (at : List Tagged) (a : Tree) → HasPlace at a → IsWellFormedContext a.now → IsWellFormedContext (here at a)
 kept_here at a place k = kept-node at a.now (here at a) k (there at a.now place)
 
--- both have a context there, and these are the same
-pub same_below : (at : List Tagged) (t : Tagged) (a b : Tree) (x : StandsBelow at t a) (y : StandsBelow at t b) → SameTree (here (at ++ t ∷ []) a) (here (at ++ t ∷ []) b) → IsSameNode t (here at a) (here at b)
-same_below at t a b x y e =
-    let f : SameTree x.child y.child = ap drop (sym x.is) ∙ e ∙ ap drop y.is in
-    subst (λ o. Both SameTree o (node_in (content t (here at b)))) (sym x.found) (subst (λ o. Both SameTree (Some x.child) o) (sym y.found) f)
+-- ---- the places that a store gives for what is under a tagged key
 
-pub below_same : (at : List Tagged) (t : Tagged) (a b : Tree) (x : StandsBelow at t a) (y : StandsBelow at t b) → IsSameNode t (here at a) (here at b) → SameTree (here (at ++ t ∷ []) a) (here (at ++ t ∷ []) b)
-below_same at t a b x y e =
-    let f : SameTree x.child y.child = subst (λ o. Both SameTree (Some x.child) o) y.found (subst (λ o. Both SameTree o (node_in (content t (here at b)))) x.found e) in
-    ap drop x.is ∙ f ∙ ap drop (sym y.is)
+-- the number of contexts at and below one
+abbrev pub counted : Option Context → ℕ
+counted None = 0
+counted (Some c) = suc (nested c)
 
--- where the first has no context there
-pub none_first : (o u : Option Context) (b : Bool) → is_some o ≡ false → b ≡ not (is_some u) → IsTrue b ↔ Both SameTree o u
-none_first None None b e f = (λ t. tt, λ h. f)
-none_first None (Some d) b e f = (λ t. let g : false ≡ true = sym f ∙ t in cc, λ h. absurd h)
-none_first (Some c) u b e f = cc
+counted_below : (t : Tagged) (c : Context) → counted (node_in (content t c)) ≤ nested c
+counted_below t c = go (content t c) refl
+  where
+    go : (o : Option Content) → content t c ≡ o → counted (node_in o) ≤ nested c
+    go None e = zero-le
+    go (Some (Values v)) e = zero-le
+    go (Some (Node d)) e = nested_below t c d e
+
+-- the place, if there is one, names a path, which leads to what is under the tagged key
+pub record IsBelow (names : Place → List Tagged → Type 0) (path : Place → List Tagged) (a : Tree) (t : Tagged) (c : Context) (o : Option Place) : Type 0 where
+  pub named : IfSome o (λ p. names p (path p))
+  pub is : option_map (λ p. here (path p) a) o ≡ node_in (content t c)
+  pub fewer : counted (option_map (λ p. here (path p) a) o) ≤ nested c
+
+module _ {names : Place → List Tagged → Type 0} {path : Place → List Tagged} (a : Tree) (one : (p : Place) (at : List Tagged) → names p at → path p ≡ at) (there : (p : Place) (at : List Tagged) → names p at → HasPlace at a)
+    (p : Place) (n : names p (path p)) (t : Tagged) (tag : HasContext t) where
+  pub is_below : (o : Option Place) → ((at : List Tagged) → names p at → is_some o ≡ is_some (content t (here at a))) → ((at : List Tagged) → names p at → IfSome o (λ q. names q (at ++ t ∷ []))) → IsBelow names path a t (here (path p) a) o
+  is_below o some below = record { named = named o (below (path p) n); is = is; fewer = rw is (counted_below t (here (path p) a)) }
+    where
+      named : (o : Option Place) → IfSome o (λ q. names q (path p ++ t ∷ [])) → IfSome o (λ q. names q (path q))
+      named None b = tt
+      named (Some q) b = rw (one q (path p ++ t ∷ []) b) b
+
+      found : (o : Option Place) → is_some o ≡ is_some (content t (here (path p) a)) → IfSome o (λ q. names q (path p ++ t ∷ [])) → option_map (λ q. here (path q) a) o ≡ node_in (content t (here (path p) a))
+      found None e b = sym (ap node_in (none_of (content t (here (path p) a)) (sym e)))
+      found (Some q) e b =
+          let x : StandsBelow (path p) t a = stands_below (path p) t a (there p (path p) n) tag (sym e) in
+          ap (λ s. Some (here s a)) (one q (path p ++ t ∷ []) b) ∙ ap Some x.is ∙ sym x.found
+
+      is : option_map (λ q. here (path q) a) o ≡ node_in (content t (here (path p) a))
+      is = found o (some (path p) n) (below (path p) n)

@@ -1,15 +1,16 @@
 -- What `same_tree` compares of two contexts, key by key: children, registers, presence sets and links.
-use Rattle.std.specs.Prelude.{◌≡◌, ◌≢◌, [], Option, Some, None}
+use Rattle.std.specs.Prelude.{◌≡◌, Bool, ◌||◌, Option, Some, None, is_some, IsTrue}
 use Rattle.jc_rules.specs.declared.key.Key.{Key}
-use Rattle.jc_rules.specs.declared.key.Next.{Next}
 use Rattle.jc_rules.specs.declared.key.Tagged.{Tagged}
 use Rattle.jc_rules.specs.declared.key.Tagged.TheVariants.{MapT, ListT}
 use Rattle.jc_rules.specs.Order.{key_cmp}
 use Rattle.jc_rules.specs.Entries.{find}
-use Rattle.jc_rules.specs.Context.{Context, registers, content, next}
+use Rattle.jc_rules.specs.Context.{Context, registers, content, presence, next}
 use Rattle.jc_rules.specs.ContextsAt.{node_in}
 use Rattle.jc_rules.specs.WellFormed.{drop}
+use Rattle.jc_tree.specs.Tree.{has_ids, or_no_entries}
 use Rattle.jc_meaning.specs.Seen.{ids_at}
+use Rattle.jc_meaning.specs.ClearingEffects.{is_tagged}
 
 -- both are there and related, or neither is
 abbrev pub Both : {X Y : Type 0} → (X → Y → Type 0) → Option X → Option Y → Type 0
@@ -26,25 +27,25 @@ SameTree c d = drop c ≡ drop d
 abbrev pub IsSameNode : Tagged → Context → Context → Type 0
 IsSameNode t c d = Both SameTree (node_in (content t c)) (node_in (content t d))
 
-abbrev pub IsSameRegister : Key → Context → Context → Type 0
-IsSameRegister k c d = find key_cmp k (registers c) ≡ find key_cmp k (registers d)
+-- the same register, presence set and link under the key; a missing presence set counts as empty
+pub record AreSameEntries (c d : Context) (k : Key) : Type 0 where
+  pub registers : find key_cmp k (registers c) ≡ find key_cmp k (registers d)
+  pub presences : ids_at k c ≡ ids_at k d
+  pub links : next k c ≡ next k d
 
--- the same map, list and register under the key
+-- all is the same under the key
 pub record IsSameKey (c d : Context) (k : Key) : Type 0 where
   pub maps : IsSameNode (MapT k) c d
   pub lists : IsSameNode (ListT k) c d
-  pub registers : IsSameRegister k c d
+  pub entries : AreSameEntries c d k
 
--- a presence set that isn't empty is the other one's
-abbrev pub HasPresence : Context → Context → Key → Type 0
-HasPresence c d k = ids_at k c ≢ [] → ids_at k c ≡ ids_at k d
+-- whether anything stands under the key, but for an empty presence set
+abbrev pub stands : Context → Key → Bool
+stands c k = has_ids (or_no_entries (presence k c)) || (is_some (next k c) || is_tagged k c)
 
--- a link is the other one's
-abbrev pub HasLink : Context → Context → Key → Type 0
-HasLink c d k = (n : Next) → next k c ≡ Some n → next k d ≡ Some n
+-- if anything stands under the key in the second, then in the first too
+abbrev pub HasKey : Context → Context → Key → Type 0
+HasKey c d k = IsTrue (stands d k) → IsTrue (stands c k)
 
-abbrev pub ArePresencesSame : Context → Context → Type 0
-ArePresencesSame c d = (k : Key) → ids_at k c ≡ ids_at k d
-
-abbrev pub AreLinksSame : Context → Context → Type 0
-AreLinksSame c d = (k : Key) → next k c ≡ next k d
+abbrev pub HasKeys : Context → Context → Type 0
+HasKeys c d = (k : Key) → HasKey c d k

@@ -1,14 +1,14 @@
 //! Decides whether two stores have the same tree, but for empty presence sets. `compare` calls `same_tree`.
 
-ghost use Rattle.std.specs.Prelude.{◌≡◌, ◌↔◌, IsTrue, Some, IfOk, OnOk, option_copied};
-ghost use Rattle.jc_rules.specs.Context.{next};
-ghost use Rattle.jc_rules.specs.Paths.{HasContext};
+ghost use Rattle.std.specs.Prelude.{◌≡◌, ◌↔◌, IsTrue, IfOk, IfSome, option_copied};
+ghost use Rattle.std.specs.Option.{option_map};
 ghost use Rattle.jc_rules.specs.WellFormed.{drop};
-ghost use Rattle.jc_tree.specs.Tree.{HasPlace, here};
-ghost use Rattle.jc_meaning.specs.Compared.{SameTree, IsSameNode, IsSameRegister, IsSameKey, HasPresence, ArePresencesSame, HasLink, AreLinksSame};
+ghost use Rattle.jc_tree.specs.Tree.{here};
+ghost use Rattle.jc_meaning.specs.Seen.{ids_of_some};
+ghost use Rattle.jc_meaning.specs.Compared.{Both, SameTree, AreSameEntries, IsSameKey, stands, HasKeys};
 
-use jc_rules::{Id, Key, Next, Tagged, Value};
-use jc_tree::{ANYWHERE, KeysOf, Place, TreeStore};
+use jc_rules::{Id, Value};
+use jc_tree::{ANYWHERE, KeyAt, Place, TreeStore};
 use std::alloc::{AllocError, Global};
 
 /// Whether the trees of both stores are the same, but for empty presence sets. Nothing but memory is refused.
@@ -19,288 +19,168 @@ pub fn same_tree<S: TreeStore, T: TreeStore>(
 ) -> Result<bool, AllocError>
     ensures { IfOk result (λ same. IsTrue same ↔ drop (S.tree left.now).now ≡ drop (T.tree right.now).now) }
 {
-    let mut at = Vec::new(alloc);
-    same_place(left, right, left.root(), right.root(), &mut at)
+    same_place(alloc, left, right, left.root(), right.root())
 }
 
-/// Whether the contexts at a path of both are the same, but for empty presence sets. At the end `at` is as it was,
-/// unless memory ran out.
+/// Whether the contexts at both places are the same, but for empty presence sets: first under each key of the left one,
+/// and then nothing may stand under another key of the right one.
 #[cycle(walk)]
 fn same_place<S: TreeStore, T: TreeStore>(
+    alloc: Global,
     left: &S,
     right: &T,
     place: Place,
     other: Place,
-    at: &mut Vec<Tagged>,
 ) -> Result<bool, AllocError>
-    requires left { HasPlace at.old.items (S.tree left.now) }
-    requires right { HasPlace at.old.items (T.tree right.now) }
-    requires left_named { S.names left.now place at.old.items }
-    requires right_named { T.names right.now other at.old.items }
-    ensures same { IfOk result (λ same. IsTrue same
-        ↔ SameTree (here at.old.items (S.tree left.now)) (here at.old.items (T.tree right.now))) }
-    ensures place { OnOk result (at.new.items ≡ at.old.items) }
+    requires left { S.names left.now place (S.path left.now place) }
+    requires right { T.names right.now other (T.path right.now other) }
+    ensures { IfOk result (λ same. IsTrue same ↔ SameTree
+        (here (S.path left.now place) (S.tree left.now)) (here (T.path right.now other) (T.tree right.now))) }
 {
-    if !same_links(left, right, place, other, at.as_slice()) {
-        return Ok(false);
-    }
-    if !same_presences(left, right, place, other, at.as_slice()) {
-        return Ok(false);
-    }
-    same_keys(left, right, place, other, at)
-}
-
-/// Whether both contexts have the same map, list and register under each key.
-#[cycle(walk)]
-fn same_keys<S: TreeStore, T: TreeStore>(
-    left: &S,
-    right: &T,
-    place: Place,
-    other: Place,
-    at: &mut Vec<Tagged>,
-) -> Result<bool, AllocError>
-    requires left { HasPlace at.old.items (S.tree left.now) }
-    requires right { HasPlace at.old.items (T.tree right.now) }
-    requires left_named { S.names left.now place at.old.items }
-    requires right_named { T.names right.now other at.old.items }
-    ensures same { IfOk result (λ same. IsTrue same
-        ↔ ((k : Key) → IsSameKey (here at.old.items (S.tree left.now)) (here at.old.items (T.tree right.now)) k)) }
-    ensures place { OnOk result (at.new.items ≡ at.old.items) }
-{
-    let mut last = None;
-    while let Some(key) = left.after_at(place, KeysOf::Content, last) {
-        if !is_key(right.after_at(other, KeysOf::Content, last), key) {
+    let keys = left.keys_at(alloc, place)?;
+    for lent in keys.as_slice() {
+        let key = KeyAt {
+            place,
+            key: lent.0,
+            hint: lent.1,
+        };
+        if !same_key(alloc, left, right, key, other)? {
             return Ok(false);
         }
-        if !same_key(left, right, place, other, at, key)? {
-            return Ok(false);
-        }
-        last = Some(key);
     }
-    Ok(right.after_at(other, KeysOf::Content, last).is_none())
+    has_keys(alloc, left, right, place, other)
 }
 
-/// Whether both contexts have the same map, list and register under the key.
+/// Whether the same stands under the key of the left context in both.
 #[cycle(walk)]
 fn same_key<S: TreeStore, T: TreeStore>(
+    alloc: Global,
     left: &S,
     right: &T,
-    place: Place,
+    key: KeyAt<'_>,
     other: Place,
-    at: &mut Vec<Tagged>,
-    key: &Key,
 ) -> Result<bool, AllocError>
-    requires left { HasPlace at.old.items (S.tree left.now) }
-    requires right { HasPlace at.old.items (T.tree right.now) }
-    requires left_named { S.names left.now place at.old.items }
-    requires right_named { T.names right.now other at.old.items }
-    ensures same { IfOk result (λ same. IsTrue same
-        ↔ IsSameKey (here at.old.items (S.tree left.now)) (here at.old.items (T.tree right.now)) key.now) }
-    ensures place { OnOk result (at.new.items ≡ at.old.items) }
+    requires left { S.names left.now key.place (S.path left.now key.place) }
+    requires right { T.names right.now other (T.path right.now other) }
+    ensures { IfOk result (λ same. IsTrue same ↔ IsSameKey
+        (here (S.path left.now key.entry.place) (S.tree left.now)) (here (T.path right.now other) (T.tree right.now))
+        key.entry.key.now) }
 {
-    if !same_register(left, right, place, other, at.as_slice(), key) {
+    if !same_entries(left, right, key, other) {
         return Ok(false);
     }
-    let maps = same_child(left, right, place, other, at, Tagged::MapT(key.copy()?))?;
-    if !maps {
+    let map = left.map_by(key.place, key.key, key.hint);
+    let other_map = right.map_by(other, key.key, ANYWHERE);
+    if !same_child(alloc, left, right, map, other_map)? {
         return Ok(false);
     }
-    same_child(left, right, place, other, at, Tagged::ListT(key.copy()?))
+    let list = left.list_by(key.place, key.key, key.hint);
+    let other_list = right.list_by(other, key.key, ANYWHERE);
+    same_child(alloc, left, right, list, other_list)
 }
 
-/// Whether both have the same context under the tagged key, or neither has one.
+/// Whether the contexts at both places are the same, or there is neither.
 #[cycle(walk)]
 fn same_child<S: TreeStore, T: TreeStore>(
+    alloc: Global,
     left: &S,
     right: &T,
-    place: Place,
-    other: Place,
-    at: &mut Vec<Tagged>,
-    tagged: Tagged,
+    place: Option<Place>,
+    other: Option<Place>,
 ) -> Result<bool, AllocError>
-    requires left { HasPlace at.old.items (S.tree left.now) }
-    requires right { HasPlace at.old.items (T.tree right.now) }
-    requires left_named { S.names left.now place at.old.items }
-    requires right_named { T.names right.now other at.old.items }
-    requires node { HasContext tagged }
-    ensures same { IfOk result (λ same. IsTrue same
-        ↔ IsSameNode tagged (here at.old.items (S.tree left.now)) (here at.old.items (T.tree right.now))) }
-    ensures place { OnOk result (at.new.items ≡ at.old.items) }
+    requires left { IfSome place (λ p. S.names left.now p (S.path left.now p)) }
+    requires right { IfSome other (λ p. T.names right.now p (T.path right.now p)) }
+    ensures { IfOk result (λ same. IsTrue same ↔ Both SameTree
+        (option_map (λ p. here (S.path left.now p) (S.tree left.now)) place)
+        (option_map (λ p. here (T.path right.now p) (T.tree right.now)) other)) }
 {
-    let Some(lower) = left.below(place, &tagged) else {
-        return Ok(right.below(other, &tagged).is_none());
-    };
-    let Some(upper) = right.below(other, &tagged) else {
-        return Ok(false);
-    };
-    let depth = at.len();
-    at.push(tagged)?;
-    let same = same_place(left, right, lower, upper, at)?;
-    at.truncate(depth);
-    Ok(same)
-}
-
-/// Whether there is a given key, and it is this one.
-fn is_key(given: Option<&Key>, key: &Key) -> bool
-    ensures { IsTrue result ↔ option_copied given.entry ≡ Some key.now }
-{
-    given == Some(key)
-}
-
-/// Whether both have the same register under the key, or neither has one.
-fn same_register<S: TreeStore, T: TreeStore>(
-    left: &S,
-    right: &T,
-    place: Place,
-    other: Place,
-    at: &[Tagged],
-    key: &Key,
-) -> bool
-    requires left { HasPlace at.now (S.tree left.now) }
-    requires right { HasPlace at.now (T.tree right.now) }
-    requires left_named { S.names left.now place at.now }
-    requires right_named { T.names right.now other at.now }
-    ensures { IsTrue result
-        ↔ IsSameRegister key.now (here at.now (S.tree left.now)) (here at.now (T.tree right.now)) }
-{
-    match (
-        left.register_by(place, key, ANYWHERE),
-        right.register_by(other, key, ANYWHERE),
-    ) {
-        (Some(pairs), Some(others)) => same_pairs(pairs, others),
-        (None, None) => true,
-        _ => false,
+    match (place, other) {
+        (Some(place), Some(other)) => same_place(alloc, left, right, place, other),
+        (None, None) => Ok(true),
+        _ => Ok(false),
     }
 }
 
-fn same_pairs(left: &[(Id, Value)], right: &[(Id, Value)]) -> bool
-    ensures { IsTrue result ↔ left.now ≡ right.now }
+/// Whether both contexts have the same register, presence set and link under the key of the left one.
+fn same_entries<S: TreeStore, T: TreeStore>(
+    left: &S,
+    right: &T,
+    key: KeyAt<'_>,
+    other: Place,
+) -> bool
+    requires left { S.names left.now key.place (S.path left.now key.place) }
+    requires right { T.names right.now other (T.path right.now other) }
+    ensures { IsTrue result ↔ AreSameEntries
+        (here (S.path left.now key.entry.place) (S.tree left.now)) (here (T.path right.now other) (T.tree right.now))
+        key.entry.key.now }
+{
+    left.step_by(key.place, key.key, key.hint).next == right.step_by(other, key.key, ANYWHERE).next
+        && same_register(
+            left.register_by(key.place, key.key, key.hint),
+            right.register_by(other, key.key, ANYWHERE),
+        )
+        && same_ids(
+            left.presence_by(key.place, key.key, key.hint),
+            right.presence_by(other, key.key, ANYWHERE),
+        )
+}
+
+/// Whether both have the same register, or neither has one.
+fn same_register(left: Option<&[(Id, Value)]>, right: Option<&[(Id, Value)]>) -> bool
+    ensures { IsTrue result ↔ option_copied left.entry ≡ option_copied right.entry }
 {
     left == right
 }
 
-/// Whether each key has the same presence set in both. A missing one counts as empty.
-fn same_presences<S: TreeStore, T: TreeStore>(
-    left: &S,
-    right: &T,
-    place: Place,
-    other: Place,
-    at: &[Tagged],
-) -> bool
-    requires left { HasPlace at.now (S.tree left.now) }
-    requires right { HasPlace at.now (T.tree right.now) }
-    requires left_named { S.names left.now place at.now }
-    requires right_named { T.names right.now other at.now }
-    ensures { IsTrue result
-        ↔ ArePresencesSame (here at.now (S.tree left.now)) (here at.now (T.tree right.now)) }
+/// Whether both have the same presence set. A missing one counts as empty.
+fn same_ids(left: Option<&[Id]>, right: Option<&[Id]>) -> bool
+    ensures { IsTrue result ↔ ids_of_some (option_copied left.entry) ≡ ids_of_some (option_copied right.entry) }
 {
-    has_presences(left, right, place, other, at) && has_presences(right, left, other, place, at)
+    left.unwrap_or(&[]) == right.unwrap_or(&[])
 }
 
-/// Whether the second has each presence set of the first that isn't empty.
-fn has_presences<S: TreeStore, T: TreeStore>(
+/// Whether something stands in the left context under each key under which something stands in the right one. It need
+/// not be the same.
+fn has_keys<S: TreeStore, T: TreeStore>(
+    alloc: Global,
     left: &S,
     right: &T,
     place: Place,
     other: Place,
-    at: &[Tagged],
-) -> bool
-    requires left { HasPlace at.now (S.tree left.now) }
-    requires right { HasPlace at.now (T.tree right.now) }
-    requires left_named { S.names left.now place at.now }
-    requires right_named { T.names right.now other at.now }
-    ensures { IsTrue result
-        ↔ ((k : Key) → HasPresence (here at.now (S.tree left.now)) (here at.now (T.tree right.now)) k) }
+) -> Result<bool, AllocError>
+    requires left { S.names left.now place (S.path left.now place) }
+    requires right { T.names right.now other (T.path right.now other) }
+    ensures { IfOk result (λ has. IsTrue has ↔ HasKeys
+        (here (S.path left.now place) (S.tree left.now)) (here (T.path right.now other) (T.tree right.now))) }
 {
-    let mut last = None;
-    while let Some(key) = left.after_at(place, KeysOf::Presence, last) {
-        if !has_presence(left, right, place, other, at, key) {
-            return false;
+    let keys = right.keys_at(alloc, other)?;
+    for lent in keys.as_slice() {
+        let there = KeyAt {
+            place: other,
+            key: lent.0,
+            hint: lent.1,
+        };
+        let here = KeyAt {
+            place,
+            hint: ANYWHERE,
+            ..there
+        };
+        if stands(right, there) && !stands(left, here) {
+            return Ok(false);
         }
-        last = Some(key);
     }
-    true
+    Ok(true)
 }
 
-/// Whether the key's presence set in the first is empty, or the same in the second.
-fn has_presence<S: TreeStore, T: TreeStore>(
-    left: &S,
-    right: &T,
-    place: Place,
-    other: Place,
-    at: &[Tagged],
-    key: &Key,
-) -> bool
-    requires left { HasPlace at.now (S.tree left.now) }
-    requires right { HasPlace at.now (T.tree right.now) }
-    requires left_named { S.names left.now place at.now }
-    requires right_named { T.names right.now other at.now }
-    ensures { IsTrue result ↔ HasPresence (here at.now (S.tree left.now)) (here at.now (T.tree right.now)) key.now }
+/// Whether anything stands under the key, but for an empty presence set.
+fn stands<S: TreeStore>(store: &S, key: KeyAt<'_>) -> bool
+    requires { S.names store.now key.place (S.path store.now key.place) }
+    ensures { result ≡ stands (here (S.path store.now key.entry.place) (S.tree store.now)) key.entry.key.now }
 {
-    match (
-        left.presence_by(place, key, ANYWHERE),
-        right.presence_by(other, key, ANYWHERE),
-    ) {
-        (Some(ids), Some(others)) => ids.is_empty() || same_ids(ids, others),
-        (Some(ids), None) => ids.is_empty(),
-        (None, _) => true,
-    }
-}
-
-fn same_ids(left: &[Id], right: &[Id]) -> bool
-    ensures { IsTrue result ↔ left.now ≡ right.now }
-{
-    left == right
-}
-
-/// What follows the key in the context at the place.
-fn next_at<S: TreeStore>(store: &S, place: Place, at: &[Tagged], key: &Key) -> Option<Next>
-    requires there { HasPlace at.now (S.tree store.now) }
-    requires named { S.names store.now place at.now }
-    ensures { result ≡ next key.now (here at.now (S.tree store.now)) }
-{
-    store.step_by(place, key, ANYWHERE).next
-}
-
-/// Whether each key has the same link in both, or in neither.
-fn same_links<S: TreeStore, T: TreeStore>(
-    left: &S,
-    right: &T,
-    place: Place,
-    other: Place,
-    at: &[Tagged],
-) -> bool
-    requires left { HasPlace at.now (S.tree left.now) }
-    requires right { HasPlace at.now (T.tree right.now) }
-    requires left_named { S.names left.now place at.now }
-    requires right_named { T.names right.now other at.now }
-    ensures { IsTrue result
-        ↔ AreLinksSame (here at.now (S.tree left.now)) (here at.now (T.tree right.now)) }
-{
-    has_links(left, right, place, other, at) && has_links(right, left, other, place, at)
-}
-
-/// Whether the second has each link of the first.
-fn has_links<S: TreeStore, T: TreeStore>(
-    left: &S,
-    right: &T,
-    place: Place,
-    other: Place,
-    at: &[Tagged],
-) -> bool
-    requires left { HasPlace at.now (S.tree left.now) }
-    requires right { HasPlace at.now (T.tree right.now) }
-    requires left_named { S.names left.now place at.now }
-    requires right_named { T.names right.now other at.now }
-    ensures { IsTrue result
-        ↔ ((k : Key) → HasLink (here at.now (S.tree left.now)) (here at.now (T.tree right.now)) k) }
-{
-    let mut last = None;
-    while let Some(key) = left.after_at(place, KeysOf::Link, last) {
-        if next_at(left, place, at, key) != next_at(right, other, at, key) {
-            return false;
-        }
-        last = Some(key);
-    }
-    true
+    let step = store.step_by(key.place, key.key, key.hint);
+    step.present
+        || step.next.is_some()
+        || store.map_by(key.place, key.key, key.hint).is_some()
+        || store.list_by(key.place, key.key, key.hint).is_some()
+        || store.register_by(key.place, key.key, key.hint).is_some()
 }

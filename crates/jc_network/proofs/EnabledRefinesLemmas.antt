@@ -158,12 +158,6 @@ told_more replicas N i replica old new numbered l at h more =
         ∙ ap (λ (states : List State). events_from N 0 states) (states_more (take i replicas) replica)
         ∙ from_push N 0 (kept_of (take i replicas)) replica.history.now replica.number (omega (arith, number, front))
 
-pub told_all : (version : Version) (replicas : List ReplicaHistory) (i : ℕ) (listed : List Event) → length replicas ≡ i → HaveTold replicas (of_version version (kept_of replicas)) i listed → AreEnabledAsKnown version replicas listed
-told_all version replicas i listed f h =
-    let N = of_version version (kept_of replicas) in
-    let all : take i replicas ≡ replicas = take_all i replicas (omega (arith, f)) in
-    subst (λ (ps : List ReplicaHistory). AreChosen (TellsEnabled replicas true) (TellsEnabled replicas false) (events_from N 0 (kept_of ps)) listed) all h
-
 -- ---- the network
 
 applyings_kept : (p : ℕ) (os : List Op) → applyings p (map stored_op os) ≡ applyings p os

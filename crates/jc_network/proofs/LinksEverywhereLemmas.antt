@@ -229,9 +229,6 @@ child-ids (RegT k) j s (context m l r p n) = refl
 pub links-ids : (j : Key) (s : List Id) (c : Context) → links (with_presence j s c) ≡ links c
 links-ids j s (context m l r p n) = refl
 
-pub links-next : (j : Key) (x : Next) (c : Context) → links (with_next j x c) ≡ put key_cmp j x (links c)
-links-next j x (context m l r p n) = refl
-
 pub reach_ids : (j : Key) (s : List Id) (c : Context) (P : List Tagged) (k : Key) → Reach c P k → Reach (with_presence j s c) P k
 reach_ids j s c [] k h = λ g. h (ap (find key_cmp k) (sym (links-ids j s c)) ∙ g)
 reach_ids j s c (u ∷ P) k h = subst (λ o. InChild o (λ b. Reach b P k)) (sym (child-ids u j s c)) h

@@ -71,11 +71,6 @@ pub line_told : (net : NetworkHistory) (behind : Option NetworkHistory) (e : Num
 line_told net behind e rules effects r line same told h first rows last made b =
     (differences_in effects, told first rows made b, h first rows last made ∙ ap (λ (x : Option Differences). event_line net.names e.given e.number e.event rules x made.step.before made.step.after) (told_at r ∙ ap differences_in same))
 
--- it is at the network before the event
-pub behind_made : (behind : Option NetworkHistory) (event : Event) (old new : Network) (rows : List (Rule × ℕ)) → IsBehind behind old → StepIn old event new rows → IfSome behind (λ c. (ls : List (Rule × ℕ)) × StepIn c.history.now event new ls)
-behind_made None event old new rows b s = tt
-behind_made (Some c) event old new rows b s = (rows, subst (λ (N : Network). StepIn N event new rows) (sym b.0) s)
-
 pub behind_last : (behind : Option NetworkHistory) (old new : NetworkHistory) → IsBehind behind old.history.now → new.history.earlier ≡ timeline old.history → IfSome behind (λ c. IsBeforeLast c.history.now new.history)
 behind_last None old new b e = tt
 behind_last (Some c) old new b e = record { before = old.history.earlier; earlier = e ∙ ap (λ (N : Network). old.history.earlier ++ N ∷ []) (sym b.0) }

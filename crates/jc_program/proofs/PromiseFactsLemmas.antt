@@ -67,10 +67,6 @@ not_3 : (◌≡◌ {A = ℕ} 3 4) ⊎ (◌≡◌ {A = ℕ} 3 5) → ⊥
 not_3 (inl e) = cc
 not_3 (inr e) = cc
 
-not_2 : (◌≡◌ {A = ℕ} 2 4) ⊎ (◌≡◌ {A = ℕ} 2 5) → ⊥
-not_2 (inl e) = cc
-not_2 (inr e) = cc
-
 -- ---- arguments
 
 -- arguments without a fault are a command

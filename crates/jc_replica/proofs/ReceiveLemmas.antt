@@ -151,11 +151,6 @@ refused_read now q (Some i) os rest l none = go (op_of i os) refl none
     go None f g = refused_take now q i os rest l f
     go (Some k) f g = cc
 
--- a yield event
-pub is_receiving : (q p : ℕ) (id : Option Id) → IsYieldEvent (receiving_event q id p)
-is_receiving q p None = tt
-is_receiving q p (Some i) = tt
-
 -- what is handed, or else one's own
 pub offered_now : (o : Option (Bor (List Op))) (own : Bor (List Op)) → (unwrap_or o own).now ≡ unwrap_or (option_copied o) own.now
 offered_now None own = refl

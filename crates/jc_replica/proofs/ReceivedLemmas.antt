@@ -35,9 +35,6 @@ found_in P i (p ∷ os) o a e = go (same_id i p.id) refl (found_in P i os o a.1)
         subst P same a.0
     go false q ih = ih (rw q at e)
 
-id_at : ℕ → ℕ → Id
-id_at q n = record { counter = n; replica = q }
-
 -- In a sound set that the operations are of, all of the replica's own up to the counter are among them.
 pub whole_has : (set : List Op) (q : ℕ) (os : List Op) → IsSound set → AreKeptOf set os → {n : ℕ} → IsContiguousTo q os n → (e : Op) → op_of e.id set ≡ Some e → e.id.replica ≡ q → e.id.counter ≤ n → has_id e.id (identifiers os) ≡ true
 whole_has set q os sound kept none e of own l = let c = counts set e.id e sound of in absurd (omega arith)

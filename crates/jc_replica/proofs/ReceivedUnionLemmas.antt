@@ -102,11 +102,6 @@ with-swap p q (o ∷ os) l = go (id_cmp p.id o.id) refl (id_cmp q.id o.id) refl 
     go Greater e Equal f ih = rw (e, f, e) refl
     go Greater e Greater f ih = rw (e, f, e) (ap (λ (x : List Op). o ∷ x) ih)
 
--- one that is less than all others comes in first or last
-pub both-with : (p : Op) (os ps : List Op) → AllByRecursion (λ i. id_cmp p.id i ≡ Less) (identifiers ps) → both (with_op p os) ps ≡ with_op p (both os ps)
-both-with p os [] h = refl
-both-with p os (q ∷ ps) h = ap (with_op q) (both-with p os ps h.1) ∙ sym (with-swap q p (both os ps) h.0)
-
 pub both-append : (os ps qs : List Op) → both os (ps ++ qs) ≡ both (both os qs) ps
 both-append os [] qs = refl
 both-append os (p ∷ ps) qs = ap (with_op p) (both-append os ps qs)

@@ -38,9 +38,6 @@ pub some_ended : (n : ℕ) (xs : List Cmd) (x : Cmd) → drop (n - 1) xs ≡ x �
 some_ended zero xs x e = absurd (let l = ap length e in omega (arith, l))
 some_ended (suc n) xs x e = omega arith
 
-pub ended_fits : (n : ℕ) (xs : List Cmd) (x : Cmd) → drop (n - 1) xs ≡ x ∷ drop n xs → n ≤ length xs
-ended_fits n xs x e = omega (arith, one_more_fits (n - 1) xs x (drop n xs) e)
-
 pub one_less : (n : ℕ) (xs : List Cmd) (x : Cmd) (rest : List Cmd) → drop n xs ≡ x ∷ rest → length (drop (n + 1) xs) + 1 ≡ length (drop n xs)
 one_less n xs x rest e = ap (λ (y : List Cmd). length y + 1) (drop-more n xs x rest e) ∙ add-one (length rest) ∙ sym (ap length e)
 
@@ -80,9 +77,3 @@ pub left_of : (xs : List CmdTree) (n : ℕ) → map cmd_of (take (length xs - n)
 left_of xs n =
     ap (λ (ys : List CmdTree). map cmd_of ys) (take_all (length xs - n) (drop n xs) (omega (arith, length-drop n xs)))
     ∙ sym (drop-map cmd_of n xs)
-
--- what is read twice
-pub read_twice : {X : Type 0} (xs : List X) (n : ℕ) (c d : X) → n < length xs → c ≡ get_or xs n c → d ≡ get_or xs n d → c ≡ d
-read_twice [] n c d l f g = absurd (omega (arith, l))
-read_twice (x ∷ xs) zero c d l f g = f ∙ sym g
-read_twice (x ∷ xs) (suc n) c d l f g = read_twice xs n c d (omega (arith, l)) f g

@@ -30,7 +30,3 @@ unstep {script} {t} {ss} {h} k u rs r h0 se ue be =
 -- what is asked of the last step, as it is
 pub can_back_as : {script : List Cmd} {t : Tree} {ss : List Record} {h : Held} → IsReplica script t ss h → (rs : List Record) (r : Record) → ss ≡ rs ++ r ∷ [] → (c : Change) → r.change ≡ c → CanBack script c h
 can_back_as {script} {t} {ss} {h} k rs r se c ce = subst (λ (x : Change). CanBack script x h) ce (can_back k rs r se)
-
--- without a step
-pub no_earlier : (script : List Cmd) (t : Tree) (ss : List Record) (h : Held) → ss ≡ [] → states script (timeline t) ss h ≡ []
-no_earlier script t ss h e = ap (λ (rs : List Record). states script (timeline t) rs h) e

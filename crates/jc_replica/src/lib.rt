@@ -18,4 +18,5 @@ mod yielding;
 
 pub use fault::ReplicaFault;
 pub use last_step::LastStep;
+pub use received::find;
 pub use replica::Replica;

@@ -62,13 +62,6 @@ ascii_after line h =
     let rest = past (λ b. not (is_blank_char b)) front in
     ascii_drop (prefix_len is_blank_char rest) rest (ascii_drop (prefix_len (λ b. not (is_blank_char b)) front) front (ascii_drop (prefix_len is_blank_char line) line h))
 
--- ---- positions
-
--- a number that isn't 0 is before position 0
-pub some_before_is : (n : ℕ) → n ≢ 0 → some_before (Some n) ≡ Some (before n)
-some_before_is zero ne = absurd (ne refl)
-some_before_is (suc n) ne = refl
-
 -- ---- words
 
 only_one : (ws : List Word) (w : Word) → Some w ≡ only ws → ws ≡ w ∷ []

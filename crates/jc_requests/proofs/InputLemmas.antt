@@ -64,9 +64,6 @@ keeps text b h = let n = length-append text (b ∷ []) in sym (take_whole 838860
 pub keeps_out : (text : List ℕ) (b : ℕ) → length text ≡ 8388609 → text ≡ kept (text ++ b ∷ [])
 keeps_out text b h = sym (take_full 8388609 text (b ∷ []) h)
 
-pub part_none : (old : Option (List ℕ)) (room : ℕ) → TextPart old old [] 0 room room
-part_none old room = record { part = []; gone = Consumes-nil old; kept_is = refl; count_is = refl; room_is = omega arith }
-
 pub part_more : (old now next : Option (List ℕ)) (front new : List ℕ) (count more most room less b : ℕ) → TextPart old now front count most room → Consumes now next (b ∷ []) → new ≡ kept (front ++ b ∷ []) → less + 1 ≡ room → more ≡ count + 1
     → TextPart old next new more most less
 part_more old now next front new count more most room less b r h e one up = record {

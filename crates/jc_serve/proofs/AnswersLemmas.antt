@@ -44,11 +44,6 @@ shows_lead P text old new r answer f h s start v =
     let (p, same, w) = h s start v in
     (subst (λ (B : Served). AnswersServed text s start (state_of old) r B answer) (sym same) (f s start v p), w)
 
-pub same_lead : (text : List ℕ) (x : AnyServed) (r : Asked) (answer : List ℕ)
-    → ((s : Scenario) (start : Network) → IsServing s start x → AnswersServed text s start (state_of x) r (state_of x) answer)
-    → LeadsTo text x r x answer
-same_lead text x r answer f s start v = (f s start v, v)
-
 -- ---- looks
 
 pub looks_stopped : (s : Scenario) (events : List Event) (position count : ℕ) (at : Option Position) (look : Look) (answer : List ℕ) → count_at s events position at ≡ Ok count → StopsBefore s events count answer → LooksAt s events position at look answer

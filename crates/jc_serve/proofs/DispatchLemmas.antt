@@ -38,23 +38,6 @@ use Rattle.jc_serve.proofs.StopAnswersLemmas.{look_answer}
 
 -- ---- where there is a session
 
--- what isn't about breakpoints, nor to end
-pub plain_own : (q : AnyRequest)
-    → (q ≡ R.Quit → ⊥)
-    → (q ≡ R.Run → ⊥)
-    → ((n : ℕ) → q ≡ R.BreakAt n → ⊥)
-    → ((name : Bor (List ℕ)) → q ≡ R.BreakRule name → ⊥)
-    → ((name : Bor (List ℕ)) → q ≡ R.BreakReplica name → ⊥)
-    → ((k : ℕ) → q ≡ R.Unbreak k → ⊥)
-    → IsOwn (request_view q) → ⊥
-plain_own R.Quit a b c d e f h = a refl
-plain_own R.Run a b c d e f h = b refl
-plain_own (R.BreakAt n) a b c d e f h = c n refl
-plain_own (R.BreakRule name) a b c d e f h = d name refl
-plain_own (R.BreakReplica name) a b c d e f h = e name refl
-plain_own (R.Unbreak k) a b c d e f h = f k refl
-plain_own q a b c d e f h = h
-
 pub quit_lead : (text : List ℕ) (x : AnyServed) (answer : List ℕ) → answer ≡ quit_answer → LeadsTo text x (K.of_session Q.quit) x answer
 quit_lead text x answer is s start v = (subst (λ (t : List ℕ). AnswersServed text s start (state_of x) (K.of_session Q.quit) (state_of x) t) (sym is) A.quits, v)
 
@@ -125,11 +108,6 @@ journal_stop text x trace effects between answer h s stop of v =
 -- ---- any text
 
 module _ (text : List ℕ) where
-  pub held_session : (H : Subject) (x : AnyServed) → IsSubjectOf text H (S.Served x) → IsInService x × ((s : Scenario) × IsScenario text s)
-  held_session (no_scenario fault) x h = absurd h
-  held_session (stuck_given s stop) x h = absurd h
-  held_session (served s start A) x h = ((s, start, h.1), (s, h.0))
-
   pub held_stopped : (H : Subject) (y : AnyGivenStop) → IsSubjectOf text H (S.StuckGiven y) → IsSomeStop y × ((s : Scenario) × IsScenario text s)
   held_stopped (no_scenario fault) y h = absurd h
   held_stopped (stuck_given s stop) y h = ((s, stop, h.1), (s, h.0))

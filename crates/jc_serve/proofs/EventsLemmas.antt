@@ -39,11 +39,6 @@ use Rattle.jc_serve.proofs.PlacedLemmas.{line_placed, step_here}
 use Rattle.jc_serve.proofs.SessionsLemmas.{moved_debugger, aside_moved, here_moved}
 use Rattle.jc_serve.proofs.MarksLemmas.{last_is}
 
--- the rules of the event that led to a position behind 0
-pub rules_there : (d : Seen) (r : Option (Bor (List Run))) → IfSome r (λ t. IsTraceOf d (rows_of_all t.now)) → (IsNone r ↔ (length d.traces ≡ 0)) → 0 < length d.traces → (rows : List (Rule × ℕ)) × IsTraceOf d rows × (rows_of r ≡ Some rows)
-rules_there d (Some t) h none some = (rows_of_all t.now, h, refl)
-rules_there d None h none some = let zero = none.0 refl in absurd (omega (arith, zero, some))
-
 module _ (s : Scenario) (start : Network) (x : AnyServed) (v : IsServing s start x) (details : Details) where
   -- a given event is made
   pub given_made : (n : ℕ) → n < length x.scenario.given.items → (events : List Event) → events ≡ x.here.schedule → (N : Network) × IsAt (scenario_view x.scenario) events (suc n) N

@@ -90,14 +90,6 @@ module _ (s : Scenario) (start : Network) (x : AnyServed) (v : IsServing s start
         (subst (λ (es : List Event). IsToldAt start es fault.0 stuck) same
         (subst (λ (S : Network). IsToldAt S d.schedule fault.0 stuck) of.is_start fault.2))
 
-    pub ended_named : AllNamed e
-    ended_named =
-        subst (λ (ns : List (List ℕ)). All (λ a. AreNamed a (length ns)) e.schedule) (sym ended_debugger.names)
-        (subst (λ (es : List Event). All (λ a. AreNamed a (length s.names)) es) (sym ended_schedule) v.current.known)
-
-    pub ended_given : All (λ a. AreNamed a (length e.net.names)) x.scenario.given.items
-    ended_given = given_named e ended_debugger
-
     pub ended_stuck : IsNamedStuck e.net.names stuck
     ended_stuck = stuck_is_named s start x v e ended_debugger ended_schedule (length e.traces) stuck told_there
 

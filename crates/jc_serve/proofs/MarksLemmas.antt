@@ -220,10 +220,6 @@ none_made_named aside here event i h l all = (
     none_is_some : (x : Id) → None ≡ Some x → ⊥
     none_is_some x e = cc
 
--- no event leads to position 0
-pub no_led : (here : Seen) (m : Mark) → length here.traces ≡ 0 → LedBy (start_of here) here.schedule (length here.traces) → ⊥
-no_led here m e to = let n = to.is in absurd (omega (arith, n, e))
-
 -- ---- places of documents
 
 pub changes_told : (event : Event) (A B : State) (c : Cursor) (x : Differences) (t : Bool) → AreEffectsOf (event_op event A B) A.tree B.tree (Some x) → t ≡ differs_at c.path c.last x → IsTrue t ↔ Changes event A B c
@@ -307,9 +303,6 @@ pub other_at : (here : Seen) (marks : List (Option AnyMark)) (j : ℕ) (m : AnyM
 other_at here marks j m t e h f (b, at, names) =
     let same : b ≡ mark_of m = same_Some b (mark_of m) (same_Some (Some b) (Some (mark_of m)) (sym at ∙ e)) in
     never (sym f ∙ h.1 (subst (λ (x : Mark). MarkNames (start_of here) here.schedule x (length here.traces)) same names))
-
-pub this_at : (here : Seen) (marks : List (Option AnyMark)) (j : ℕ) (m : AnyMark) (t : Bool) → slice_get (marks_of marks) j ≡ Some (Some (mark_of m)) → (IsTrue t ↔ MarkNames (start_of here) here.schedule (mark_of m) (length here.traces)) → t ≡ true → NamesHere here marks j
-this_at here marks j m t e h y = (mark_of m, e, h.0 y)
 
 pub none_here : (here : Seen) (marks : List (Option AnyMark)) (n : ℕ) → length marks ≤ n → ((i : ℕ) → i < n → NamesHere here marks i → ⊥) → (j : ℕ) → NamesHere here marks j → ⊥
 none_here here marks n le none j (b, at, names) = none j (let w = mark_within marks j (Some b) at in omega (arith, w, le)) (b, at, names)

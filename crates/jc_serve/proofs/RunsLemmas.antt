@@ -31,12 +31,6 @@ moved_both x y z n k a b = record {
   aside = D.moved_both x.aside y.aside z.aside (length y.aside.traces) (length z.aside.traces) (length z.aside.traces) a.aside b.aside refl;
 }
 
-pub paired_still : (x y : AnyServed) (n : ℕ) → IsMovedTo x y n → ArePaired x → ArePaired y
-paired_still x y n m p = record {
-  start = m.aside.start ∙ (p.start ∙ sym m.here.start);
-  schedule = m.aside.schedule ∙ (p.schedule ∙ sym m.here.schedule);
-}
-
 -- what holds at the new position holds by the old session's start, schedule and breakpoints
 carried : (P : Network → List Event → List (Option AnyMark) → ℕ → Type 0) (x y : AnyServed) (n : ℕ) → IsMovedTo x y n → P (start_of y.here) y.here.schedule y.marks.items (length y.here.traces) → P (start_of x.here) x.here.schedule x.marks.items n
 carried P x y n m h =
@@ -60,9 +54,6 @@ least_old x y n j m h = carried (λ S es bs k. IsLeast (NamesThere S es bs k) j)
 -- no breakpoint names a later position before n
 abbrev pub Quiet : AnyServed → ℕ → Type 0
 Quiet x n = (m : ℕ) → m < n → length x.here.traces < m → IsUnmarked (start_of x.here) (state_of x) m
-
-pub quiet_first : (x : AnyServed) → Quiet x (length x.here.traces + 1)
-quiet_first x m below from = absurd (omega (arith, below, from))
 
 pub quiet_more : (x y z : AnyServed) → IsMovedTo x y (length y.here.traces) → Quiet x (length y.here.traces + 1) → GoesForward y z None → Quiet x (length z.here.traces + 1)
 quiet_more x y z m q g =
@@ -172,13 +163,6 @@ here_moved x z h n a b = record {
 
 here_alone : (x : AnyServed) (h : Seen) (n : ℕ) → IsMoved x.here h n → IsMovedTo x (with_here x h) n
 here_alone x h n a = record { scenario = refl; marks = refl; here = a; aside = D.moved_none x.aside }
-
-pub paired_here : (x : AnyServed) (h : Seen) (n : ℕ) → IsMoved x.here h n → ArePaired x → ArePaired (with_here x h)
-paired_here x h n a p = paired_still x (with_here x h) n (here_alone x h n a) p
-
--- the place of a breakpoint that names the position
-pub place_within : (x : AnyServed) (j : ℕ) → IsNamedBy x.here x.marks.items (Some j) → j < length x.marks.items
-place_within x j least = mark_within x.marks.items j (Some least.0.0) least.0.1
 
 -- an event forward, and no breakpoint or the least one that names the position
 pub forward_quiet : (x z : AnyServed) (h : Seen) (found : Option ℕ) → IsMoved x.here h (length x.here.traces + 1) → IsMovedTo (with_here x h) z (length h.traces) → IsNamedBy z.here z.marks.items found → found ≡ None → IsDebugger z.here → GoesForward x z None

@@ -203,9 +203,6 @@ ends input rest b t held old now end s h = (
     all_read (Some bytes) None turns r h = absurd r
     all_read (Some bytes) (Some xs) turns r h = subst (λ (ts : List Turn). AreDue bytes ts end) (append-nil turns) (r.0 [] end (h xs refl))
 
-same_known : (xs ys : List ℕ) → Some xs ≡ Some ys → xs ≡ ys
-same_known xs ys e = cc
-
 pub at_end : (input rest : Option (List ℕ)) (b t : ℕ) (held : AnyHeld) (old now : Stream) → SoFar input rest b t held old now → IsAtEnd rest → Written (λ text. Serves input text finished) old now
 at_end input rest b t held old now s h = ends input rest b t held old now finished s (λ xs e. subst (λ (l : List ℕ). AreTurns b t l [] finished) (sym (none_left rest xs e h)) I.ends)
   where
@@ -388,9 +385,6 @@ line_led line request x y text items e kept is on H (same, of) =
 pub line_refused : (line : Line) (x : AnyHeld) (items : List ℕ) → asked line ≡ None → items ≡ refusal_answer BadLine → LeadsOn x (says line) x items
 line_refused line x items none written H of = (H, subst (λ (t : List ℕ). AnswersTurn H (says line) H t) (sym written) (V.refuses none), of)
 
-pub held_for : (x : AnyHeld) (text : List ℕ) → text ≡ x.text.items → IsHeld x → IsHeldFor text x.subject
-held_for x text e (H, h) = (H.subject, subst (λ (l : List ℕ). IsSubjectOf l H.subject x.subject) (sym (e ∙ h.0)) h.1)
-
 pub quits : (line : Line) (request : Asked) (r more : Bool) → more ≡ not r → (IsTrue r ↔ (request ≡ of_session Q.quit)) → asked line ≡ Some request → (more ≡ false ↔ (asked line ≡ Some (of_session Q.quit)))
 quits line request true more e h is = (λ f. is ∙ ap Some (h.0 refl), λ f. e)
 quits line request false more e h is = (
@@ -422,19 +416,6 @@ text_led x y bytes items H e is (same, of) counts I held = (
   V.brings_text is (subst (λ (l : List ℕ). IsCounts l H.subject items) e counts),
   (same ∙ e, subst (λ (l : List ℕ). IsSubjectOf l H.subject y.subject) e of),
 )
-
--- what was led on, and how its line went
-pub went_out : (Went : List ℕ → Stream → Stream → Type 0) (x y : AnyHeld) (turn : Turn) (items : List ℕ) (old new : Stream) → LeadsOn x turn y items → Went (items ++ 10 ∷ []) old new → GoesOut Went x turn y old new
-went_out Went x y turn items old new leads went = (items, leads, went)
-
-pub wrote_failures : (x y : AnyHeld) (turn : Turn) (old new : Stream) → GoesOut Wrote x turn y old new → new.failures ≡ old.failures
-wrote_failures x y turn old new (items, leads, went) = went.1
-
-pub broke_failures : (x y : AnyHeld) (turn : Turn) (old new : Stream) → GoesOut Interrupted x turn y old new → new.failures ≡ old.failures + 1
-broke_failures x y turn old new (items, leads, broke) = one_failure old new (items ++ 10 ∷ []) broke
-
-pub so_far_failures : (input rest : Option (List ℕ)) (b t : ℕ) (held : AnyHeld) (old now : Stream) → SoFar input rest b t held old now → now.failures ≡ old.failures
-so_far_failures input rest b t held old now s = s.went.1
 
 -- ---- the next request
 

@@ -82,15 +82,6 @@ here_moved s start x h n v m =
     serving s start x h x.aside v (moved_debugger s start x.here h n v.here m) (m.breaks ∙ v.no_breaks) v.aside (v.same ∙ sym m.schedule)
     (subst (λ (es : List Event). IsWellFormedScenario (with_schedule s es)) (sym m.schedule) v.current)
 
--- the debuggers' schedules name its replicas
-pub here_named : (s : Scenario) (start : Network) (x : AnyServed) → IsServing s start x → AllNamed x.here
-here_named s start x v = subst (λ (ns : List (List ℕ)). All (λ e. AreNamed e (length ns)) x.here.schedule) (sym v.here.names) v.current.known
-
-pub aside_named : (s : Scenario) (start : Network) (x : AnyServed) → IsServing s start x → AllNamed x.aside
-aside_named s start x v =
-    subst (λ (ns : List (List ℕ)). All (λ e. AreNamed e (length ns)) x.aside.schedule) (sym v.aside.names)
-    (subst (λ (es : List Event). All (λ e. AreNamed e (length s.names)) es) (sym v.same) v.current.known)
-
 -- ---- requests of a session
 
 -- A request leaves the schedule as it was, or it makes an event of the caller's.

@@ -65,11 +65,6 @@ module _ (s : Scenario) (stop : GivenStop s) (x : AnyGivenStop) (v : IsStopped s
 
   -- ---- positions
 
-  pub reached_so : (p : Position) (count : ℕ) → count_of (scenario_view x.scenario) (scenario_view x.scenario).schedule p ≡ Ok count → count ≤ x.count → IsReachedBy s stop (Some p) count
-  reached_so p count is le =
-      let number = v.count in
-      (p, refl, subst (λ (t : Scenario). count_of t t.schedule p ≡ Ok count) v.scenario is, omega (arith, le, number))
-
   pub unreached_nowhere : (p : Position) (fault : LookFault) → RefusesBy (IsNowhereAnswer (scenario_view x.scenario) (scenario_view x.scenario).schedule p) fault → RefusesBy (IsUnreached s stop (Some p)) fault
   unreached_nowhere p (F.Refused answer) (refusal, none, is) =
       subst (λ (t : List ℕ). IsUnreached s stop (Some p) t) (sym is) (nowhere refl (subst (λ (t : Scenario). count_of t t.schedule p ≡ Err refusal) v.scenario none))

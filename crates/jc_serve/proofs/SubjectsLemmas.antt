@@ -58,20 +58,11 @@ counts_refused why answer is text (served s start A) h = absurd h
 -- ---- where a given event is stuck
 
 module _ (s : Scenario) (at : ℕ) (stuck : Stuck) (h : IsGivenFault (before_given s) s.given at stuck) where
-  pub one_at_least : 1 ≤ at
-  one_at_least = let number = h.stuck.at_is in omega (arith, number)
-
   low : h.stuck.before < length s.given
   low = slice_get_within s.given h.stuck.before h.event h.stuck.is
 
   before_it : at - 1 ≡ h.stuck.before
   before_it = let number = h.stuck.at_is in omega (arith, number)
-
-  pub within_given : at - 1 ≤ length s.given
-  within_given = let lt = low in let number = before_it in omega (arith, lt, number)
-
-  pub leads_there : (last : Network) × AfterIn (before_given s) (take (at - 1) s.given) last
-  leads_there = (h.stuck.network, subst (λ (n : ℕ). AfterIn (before_given s) (take n s.given) h.stuck.network) (sym before_it) h.stuck.led)
 
   abbrev stop : GivenStop s
   stop =

@@ -52,6 +52,3 @@ module _ (names : List (List ℕ)) where
       ∙ sym (answers_more 1 (map f (take i marks)) (f (get_or marks i d)))
       ∙ ap (mark_answers names 1) (sym (map_more f marks i d lt)) in
       subst (λ ts. HasItems a ts) step h
-
-  pub all_marks : (marks : List (Option AnyMark)) (n : ℕ) (a : ArrayText) → length marks ≤ n → HasItems a (mark_answers names 1 (marks_of (take n marks))) → HasItems a (mark_answers names 1 (marks_of marks))
-  all_marks marks n a enough h = subst (λ ms. HasItems a (mark_answers names 1 (marks_of ms))) (take_all n marks enough) h

@@ -150,14 +150,6 @@ named_reply d e q answer all g = by_answer answer g.is_reply
     by_answer (R.Ran n end) is = by_end n end is
     by_answer a is = tt
 
-pub gives_answer : (d e : Seen) (q : Request) (answer : AnyReply) (text : List ℕ) → GivesReply d q e answer → ((r : Reply) → IsReply e answer r → text ≡ reply_text e.net.names r) → GivesAnswer d q e text
-gives_answer d e q answer text g h = record {
-  reply = g.reply;
-  replies = g.replies;
-  written = h g.reply g.is_reply ∙ ap (λ (O : Origin). reply_text O.names g.reply) g.origin;
-  origin = g.origin;
-}
-
 -- ---- lines
 
 pub gives_nothing : (d : Seen) (l : Line) (text : List ℕ) → nothing ≡ meaning l → text ≡ [] → GivesLine d l d text

@@ -9,9 +9,6 @@ use Rattle.jc_session.specs.Lines.{Lacks}
 use Rattle.jc_session.specs.LineReading.{ReadStopsAt, LineRead}
 use Rattle.jc_session.proofs.AheadLemmas.{kept_more}
 
-pub reads_none : (old : Option (List ℕ)) (room : ℕ) → LineRead old old [] false room room
-reads_none old room = record { raw = []; no_lf = tt; gone = Consumes-nil old; kept_is = refl; some_is = refl; room_is = omega arith }
-
 longer : (raw : List ℕ) (b : ℕ) → true ≡ nat_lt 0 (length (raw ++ b ∷ []))
 longer raw b = let n = length-append raw (b ∷ []) in grind (arith, nat_tests, n)
 
@@ -52,13 +49,6 @@ stops_here None left new ahead raw h e s = tt
 stops_here (Some xs) None new ahead raw h e s = absurd h
 stops_here (Some xs) (Some ys) None ahead raw h e s = (ys, h ∙ ap (λ l. raw ++ l) (ap (λ l. l ++ ys) e), tt)
 stops_here (Some xs) (Some ys) (Some zs) ahead raw h e s = (ys, h ∙ ap (λ l. raw ++ l) (ap (λ l. l ++ ys) e), s)
-
-pub stops_err : {T E : Type 0} (r : Result T E) (old left new : Option (List ℕ)) (ahead ahead_new line : List ℕ) (some : Bool) (most room : ℕ) → LineRead old (prepend_known ahead left) line some most room → ahead ≡ [] → ahead_new ≡ [] → StaysIfKnown left new
-    → OnErr r ((raw : List ℕ) × Lacks 10 raw × (ahead_new ≡ []) × (length raw ≤ most) × ReadStopsAt old new raw)
-stops_err (Ok x) old left new ahead ahead_new line some most room r e f s = tt
-stops_err (Err x) old left new ahead ahead_new line some most room r e f s =
-    let m = r.room_is in
-    (r.raw, r.no_lf, f, omega (arith, m), stops_here old left new ahead r.raw r.gone e s)
 
 -- the byte that ends a line
 pub to_lf : (old now new : Option (List ℕ)) (raw : List ℕ) (byte : ℕ) → Consumes old now raw → Consumes now new (byte ∷ []) → byte ≡ 10 → Consumes old new (raw ++ 10 ∷ [])

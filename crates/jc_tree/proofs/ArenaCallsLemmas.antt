@@ -2,8 +2,8 @@
 use Rattle.std.proofs.Common.{◌≡◌, ℕ, zero, suc, ◌<◌, ◌≤◌, List, [], ◌∷◌, ◌++◌, length, get_or, slice_set, take, ◌-◌, Result, Ok, is_ok, if◌then◌else◌, refl, sym, ◌∙◌, ap, arith}
 use Rattle.std.proofs.lemmas.List.{set-get_or}
 use Rattle.jc_rules.specs.declared.key.Tagged.{Tagged}
-use Rattle.jc_tree.specs.Arena.{Flat, flat_at, with_child_number, new_flat, changed_flat, former_of_flat, restored_flat}
-use Rattle.jc_tree.specs.ArenaUndo.{restored_in, without_last}
+use Rattle.jc_tree.specs.Arena.{Flat, flat_at, with_child_number, new_flat, changed_flat, former_of_flat}
+use Rattle.jc_tree.specs.ArenaUndo.{without_last}
 use Rattle.jc_tree.specs.declared.node.Change.{Change}
 use Rattle.jc_tree.specs.declared.node.Former.{Former}
 use Rattle.jc_tree.proofs.ArenaChangesLemmas.{with_child, with_change}
@@ -38,14 +38,6 @@ pub set_past : (ns : List Flat) (i : ℕ) (x : Flat) → length ns ≤ i → sli
 set_past [] i x h = refl
 set_past (n ∷ ns) zero x h = absurd (omega (arith, h))
 set_past (n ∷ ns) (suc i) x h = ap (λ l. n ∷ l) (set_past ns i x (omega (arith, h)))
-
-pub taken_back_there : (ns vs : List Flat) (i : ℕ) (f : Former) (x x2 : Flat) → vs ≡ ns → x ≡ get_or vs i x → i < length ns → x2 ≡ restored_flat f x → slice_set vs i x2 ≡ restored_in i f ns
-taken_back_there ns vs i f x x2 e g w h =
-    let fe : x ≡ flat_at ns i = read_there ns vs i x e g w in
-    λ j. slice_set (e j) i ((h ∙ ap (λ n. restored_flat f n) fe) j)
-
-pub taken_back_past : (ns vs : List Flat) (i : ℕ) (f : Former) → vs ≡ ns → length ns ≤ i → vs ≡ restored_in i f ns
-taken_back_past ns vs i f e h = e ∙ sym (set_past ns i _ h)
 
 last_taken : (n : Flat) (ns : List Flat) → take (length ns) (n ∷ ns) ≡ without_last (n ∷ ns)
 last_taken n [] = refl

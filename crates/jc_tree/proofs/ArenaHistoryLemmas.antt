@@ -1,30 +1,13 @@
 -- About ArenaUndo: the earlier contents of an arena after a change and after an undo.
-use Rattle.std.proofs.Common.{◌≡◌, ℕ, zero, suc, ◌+◌, arith, length, take, add-one, List, [], ◌∷◌, ◌++◌, refl, sym, ◌∙◌, ap, subst}
+use Rattle.std.proofs.Common.{◌≡◌, suc, ◌+◌, length, take, add-one, List, [], ◌∷◌, ◌++◌, refl, sym, ◌∙◌, ap, subst}
 use Rattle.jc_rules.specs.declared.key.Tagged.{Tagged}
 use Rattle.jc_rules.specs.Context.{Context}
 use Rattle.jc_tree.specs.Tree.{IsChanged}
-use Rattle.jc_tree.specs.Arena.{Flat, blank, flat_at, content_of_arena}
+use Rattle.jc_tree.specs.Arena.{Flat, content_of_arena}
 use Rattle.jc_tree.specs.ArenaUndo.{IsGood, AreGood, arena_undone_once, arena_undone, arena_contents, tree_of_arena}
 use Rattle.jc_tree.specs.declared.arena.Undo.{Undo}
-use Rattle.jc_tree.proofs.ArenaChangesLemmas.{Changes, no_child_blank}
+use Rattle.jc_tree.proofs.ArenaChangesLemmas.{Changes}
 use Rattle.jc_tree.proofs.UndoLemmas.{shorter, all_of}
-
-first_blank : (i : ℕ) → flat_at (blank ∷ []) i ≡ blank
-first_blank zero = refl
-first_blank (suc i) = refl
-
--- the first node alone
-pub good_first : IsGood (blank ∷ [])
-good_first = record {
-  some = omega arith;
-  sound = record {
-    inner = λ i j t h. absurd (no_child_blank t j (rw (first_blank i) at h));
-    once = λ i u j t s h g. absurd (no_child_blank t j (rw (first_blank i) at h));
-    maps_rise = λ i. rw (first_blank i) tt;
-    lists_rise = λ i. rw (first_blank i) tt;
-  };
-  kept = (tt, tt, tt, tt, tt, tt, tt, tt, tt);
-}
 
 -- the latest change is taken back first
 undone_latest : (us : List Undo) (u : Undo) (ns : List Flat) → arena_undone (us ++ u ∷ []) ns ≡ arena_undone us (arena_undone_once u ns)

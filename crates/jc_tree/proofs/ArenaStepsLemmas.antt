@@ -1,6 +1,6 @@
 -- About Arena: reading along a path, node by node.
-use Rattle.std.proofs.Common.{◌≡◌, ◌≢◌, ℕ, ◌+◌, ◌<◌, List, [], ◌∷◌, ◌++◌, length, drop, get_or, Bool, Option, Some, None, is_some, cond, true, false, refl, sym, ◌∙◌, ap}
-use Rattle.std.proofs.lemmas.List.{drop_more, get_or_default}
+use Rattle.std.proofs.Common.{◌≡◌, ◌≢◌, ℕ, ◌<◌, List, [], ◌∷◌, ◌++◌, length, get_or, Bool, Option, Some, None, is_some, cond, true, false, refl, sym, ◌∙◌, ap}
+use Rattle.std.proofs.lemmas.List.{get_or_default}
 use Rattle.jc_rules.specs.declared.key.Tagged.{Tagged}
 use Rattle.jc_rules.specs.declared.key.Tagged.TheVariants.{MapT, ListT, RegT}
 use Rattle.jc_rules.specs.declared.id.Id.{Id}
@@ -13,7 +13,7 @@ use Rattle.jc_rules.specs.Paths.{HasContext}
 use Rattle.jc_rules.specs.ContextsAt.{node_at, context_at}
 use Rattle.jc_rules.proofs.ContextsAtLemmas.{listed_children}
 use Rattle.jc_tree.specs.Tree.{least_after, all_keys}
-use Rattle.jc_tree.specs.Arena.{Flat, flat_keys, blank, flat_at, filled_all, with_children, content_of_arena, child_number, is_in, go_on, walk}
+use Rattle.jc_tree.specs.Arena.{Flat, flat_keys, blank, flat_at, filled_all, with_children, content_of_arena, child_number, is_in, walk}
 use Rattle.jc_tree.specs.ArenaUndo.{IsGood}
 use Rattle.jc_tree.specs.Undo.{was_there, former_of_id, former_of_value}
 use Rattle.jc_tree.specs.declared.node.Former.TheVariants as F

@@ -9,7 +9,6 @@ use Rattle.jc_rules.specs.declared.id.Id.{Id}
 use Rattle.jc_rules.specs.declared.key.Key.{Key}
 use Rattle.jc_rules.specs.declared.key.Key.TheVariants.{Elem}
 use Rattle.jc_rules.specs.declared.key.Next.{Next}
-use Rattle.jc_rules.specs.declared.key.Next.TheVariants.{Elem as To}
 use Rattle.jc_rules.specs.Order.{key_cmp}
 use Rattle.jc_rules.specs.Entries.{find}
 use Rattle.jc_tree.specs.Tree.{or_no_entries, has_ids}

@@ -18,7 +18,7 @@ use Rattle.jc_rules.proofs.EntriesLemmas.{values-put, value-found}
 use Rattle.jc_rules.proofs.ContextsAtLemmas.{node_found}
 use Rattle.jc_tree.specs.Laws.{KeepsChained}
 use Rattle.jc_tree.specs.Tree.{Tree, HasPlace, here, IsChanged}
-use Rattle.jc_tree.proofs.LinkedLemmas.{linked, linked_back}
+use Rattle.jc_tree.proofs.LinkedLemmas.{linked}
 use Rattle.jc_tree.proofs.PlacesLemmas.{then_here, then_now}
 use Rattle.jc_rules.proofs.ContextLemmas.{no_node}
 
@@ -130,10 +130,6 @@ unlinked place n (context m l r p ns) h e = let f : None ≡ Some n = rw h.0 at 
 -- a fresh element is linked behind a place of a list, its own link last
 pub linked_at : (ks : List Tagged) (place : Key) (i : Id) (n : Next) (c : Context) → node_at ks c ≢ None → next place (context_at ks c) ≡ Some n → next (Elem i) (context_at ks c) ≡ None → IsChained c → IsChained (with_node_at ks (with_next (Elem i) n (with_next place (To i) (context_at ks c))) c)
 linked_at ks place i n c h e f = (chained_at_place ks _ c h (λ g. unlinked place n (context_at ks c) g e, linked place i n (context_at ks c) e f)).0
-
--- the same, its own link first
-pub linked_back_at : (ks : List Tagged) (place : Key) (i : Id) (n : Next) (c : Context) → node_at ks c ≢ None → next place (context_at ks c) ≡ Some n → next (Elem i) (context_at ks c) ≡ None → IsChained c → IsChained (with_node_at ks (with_next place (To i) (with_next (Elem i) n (context_at ks c))) c)
-linked_back_at ks place i n c h e f = (chained_at_place ks _ c h (λ g. unlinked place n (context_at ks c) g e, linked_back place i n (context_at ks c) e f)).0
 
 -- one change of a tree
 pub chained_child : (ks : List Tagged) (t : Tagged) (a b : Tree) → HasPlace ks a → IsChanged ks (with_content t (new_content t) (here ks a)) a b → IsChained a.now → IsChained b.now

@@ -58,14 +58,6 @@ module _ {X : Type 0} where
   pub past_column : (col : List (Option X)) (n : ℕ) → length col ≤ n → at_number col n ≡ None
   past_column col n h = ap (λ o. go_on o (λ o. o)) (slice_get_past col n h)
 
-  -- an empty column has no entries
-  pub blank_column : (t : Numbering) → column_entries {X = X} [] t ≡ []
-  blank_column t = go t.order
-    where
-      go : (es : List (Key × ℕ)) → shown (λ n. at_number {X = X} [] n) es ≡ []
-      go [] = refl
-      go (e ∷ es) = go es
-
   pub sorted_column : (col : List (Option X)) (t : Numbering) → IsNumbered t → AreSorted (column_entries col t)
   sorted_column col t i = rising-shown keys_total exact_keys (λ n. at_number col n) t.order i.rise
 

@@ -12,24 +12,20 @@ use Rattle.jc_rules.specs.Order.{key_cmp}
 use Rattle.jc_rules.specs.Entries.{find, replaced, put}
 use Rattle.jc_rules.specs.Ids.{with_id}
 use Rattle.jc_rules.proofs.OrderLemmas.{keys_total, exact_keys}
-use Rattle.jc_rules.proofs.EntriesLemmas.{same-self, same-eq, same-back, found-put, other-put}
+use Rattle.jc_rules.proofs.EntriesLemmas.{same-self, same-eq, found-put, other-put}
 use Rattle.jc_tree.specs.Arena.{go_on}
 use Rattle.jc_tree.specs.Tree.{or_no_entries, has_ids}
 use Rattle.jc_tree.specs.Undo.{removed, restored, taken_out, out_of_set}
 use Rattle.jc_tree.specs.Counted.{is_last}
-use Rattle.jc_tree.specs.Numbered.{Numbering, IsNumbered, GetsNumber, at_number, column_entries}
+use Rattle.jc_tree.specs.Numbered.{Numbering, IsNumbered, at_number, column_entries}
 use Rattle.jc_tree.specs.Numbered.GetsNumber.{had, gets}
 use Rattle.jc_tree.specs.Tables.{MayNumber}
 use Rattle.jc_tree.specs.Tables.MayNumber.{same, numbers}
-use Rattle.jc_tree.specs.Blocks.{Members, member, presence_bit, IsLinked, IsBehind, AreFit, AreNumbered, DifferAt, IsApart, IsNumberIn, IsLastLinked}
+use Rattle.jc_tree.specs.Blocks.{Members, member, presence_bit, IsLinked, AreFit, AreNumbered, DifferAt, IsApart, IsNumberIn, IsLastLinked}
 use Rattle.jc_tree.proofs.NumberedLemmas.{key_at, number_at, find_removed, numbered_again}
 use Rattle.jc_tree.proofs.ColumnLemmas.{find_column, sorted_column}
 use Rattle.jc_tree.proofs.CountedLemmas.{has_added, some_left}
-use Rattle.jc_tree.proofs.BlocksLemmas.{is_member, fit_relinked, fit_apart, taken}
-
--- no blocks are fit
-pub fit_none : (keys : List Key) (links : List (Key × Next)) (presences : List (Key × List Id)) (bs : List Members) → bs ≡ [] → AreFit keys links presences bs
-fit_none keys links presences bs e = λ b s n m x h i j. let no : None ≡ Some x = ap (λ (l : List Members). slice_get l b) (sym e) ∙ h in cc
+use Rattle.jc_tree.proofs.BlocksLemmas.{fit_relinked}
 
 -- keys that may be one more
 
@@ -117,9 +113,6 @@ module _ {X : Type 0} where
       go : (b : Bool) → eq_by_cmp key_cmp k e.0 ≡ b → (find key_cmp k es ≡ Some w → find key_cmp k (replaced key_cmp k x es) ≡ Some x) → find key_cmp k (e ∷ es) ≡ Some w → find key_cmp k (replaced key_cmp k x (e ∷ es)) ≡ Some x
       go true p ih f = rw (p, same-self keys_total exact_keys k) refl
       go false p ih f = rw (p, p) (ih (rw p at f))
-
-pub differ_same : {X : Type 0} (k : Key) (es fs : List (Key × X)) → fs ≡ es → DifferAt k es fs
-differ_same k es fs e = λ j d. ap (find key_cmp j) e
 
 pub if_some : {A : Type 0} (o : Option A) (P : A → Type 0) (a : A) → o ≡ Some a → P a → IfSome o P
 if_some o P a e h = subst (λ x. IfSome x P) (sym e) h

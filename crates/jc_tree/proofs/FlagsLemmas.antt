@@ -49,25 +49,12 @@ flags_written fs hs gs sets new n o b a s l w d g e =
     (ap (λ fs. flag_at fs n) g ∙ get_or-set_same hs n b false w ∙ e)
     (λ m other. ap (λ fs. flag_at fs m) g ∙ get_or-set_other hs n m b false other ∙ d m)
 
--- more flags, of which no one more is set
-pub flags_more : (fs gs : List Bool) (sets : List (Option (List Id))) → AreFlags fs sets → length fs ≤ length gs → ((m : ℕ) → flag_at gs m ≡ flag_at fs m) → AreFlags gs sets
-flags_more fs gs sets a l d = record { within = omega (arith, a.within, l); same = λ m. d m ∙ a.same m }
-
 behind : (fs : List Bool) (k m : ℕ) → flag_at (fs ++ replicate k false) m ≡ flag_at fs m
 behind [] zero m = refl
 behind [] (suc k) zero = refl
 behind [] (suc k) (suc m) = behind [] k m
 behind (f ∷ fs) k zero = refl
 behind (f ∷ fs) k (suc m) = behind fs k m
-
-all_taken : (fs : List Bool) (n : ℕ) → length fs ≤ n → take n fs ≡ fs
-all_taken [] zero h = refl
-all_taken [] (suc n) h = refl
-all_taken (f ∷ fs) zero h = absurd (omega (arith, h))
-all_taken (f ∷ fs) (suc n) h = ap (λ l. f ∷ l) (all_taken fs n (omega (arith, h)))
-
-pub resized : (fs gs : List Bool) (n k : ℕ) → length fs ≤ n → gs ≡ take n fs ++ replicate k false → (m : ℕ) → flag_at gs m ≡ flag_at fs m
-resized fs gs n k h g m = ap (λ l. flag_at l m) (g ∙ ap (λ l. l ++ replicate k false) (all_taken fs n h)) ∙ behind fs k m
 
 no_flag : (most n : ℕ) → flag_at (take most []) n ≡ false
 no_flag zero n = refl

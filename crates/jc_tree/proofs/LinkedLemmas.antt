@@ -161,8 +161,3 @@ module _ (place : Key) (i : Id) (n : Next) (c : Context) (there : next place c �
 pub linked : (place : Key) (i : Id) (n : Next) (c : Context) → next place c ≡ Some n → next (Elem i) c ≡ None → IsChainedList c → IsChainedList (with_next (Elem i) n (with_next place (To i) c))
 linked place i n (context m l r p ns) e f h =
     (chain_linked place i n (context m l r p ns) _ (place_first place i n (context m l r p ns) e f) h.0.0 h.0.1 e f, h.1, h.2)
-
--- the same, where the element's link was set first
-pub linked_back : (place : Key) (i : Id) (n : Next) (c : Context) → next place c ≡ Some n → next (Elem i) c ≡ None → IsChainedList c → IsChainedList (with_next place (To i) (with_next (Elem i) n c))
-linked_back place i n (context m l r p ns) e f h =
-    (chain_linked place i n (context m l r p ns) _ (element_first place i n (context m l r p ns) e f) h.0.0 h.0.1 e f, h.1, h.2)

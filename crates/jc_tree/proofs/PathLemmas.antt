@@ -1,13 +1,12 @@
 -- About Tree: the way down a path, key by key.
-use Rattle.std.proofs.Common.{◌≡◌, ◌≢◌, ℕ, ◌+◌, ◌<◌, List, [], ◌∷◌, ◌++◌, length, take, drop, get_or, Option, Some, None, is_some, true, false, refl, subst}
+use Rattle.std.proofs.Common.{◌≡◌, ◌≢◌, ℕ, ◌+◌, ◌<◌, List, [], ◌∷◌, ◌++◌, length, take, drop, get_or, Option, Some, None, is_some, true, refl, subst}
 use Rattle.std.proofs.Math.ListN.{take-append-drop}
 use Rattle.std.proofs.lemmas.List.{take_more}
-use Rattle.jc_rules.specs.declared.key.Key.{Key}
 use Rattle.jc_rules.specs.declared.key.Tagged.{Tagged}
 use Rattle.jc_rules.specs.declared.key.Tagged.TheVariants.{MapT, ListT, RegT}
 use Rattle.jc_rules.specs.Order.{key_cmp}
 use Rattle.jc_rules.specs.Entries.{find}
-use Rattle.jc_rules.specs.Context.{Context, Content, Node, Values, Register, node_of, values_of, content, maps, lists, registers}
+use Rattle.jc_rules.specs.Context.{Context, Content, Node, Values, node_of, content, maps, lists}
 use Rattle.jc_rules.specs.ContextsAt.{at_node, node_in, node_at, context_at}
 use Rattle.jc_rules.specs.Paths.{HasContext}
 use Rattle.jc_rules.proofs.ContextsAtLemmas.{there}
@@ -44,34 +43,6 @@ leads_on at i t c h e p =
     go : (o : Option Context) → (o ≡ None → ⊥) → is_some o ≡ true
     go None n = absurd (n refl)
     go (Some d) n = refl
-
-module _ (at : List Tagged) (i : ℕ) (t : Tagged) (c : Context) (h : i < length at) (e : t ≡ get_or at i t) (p : node_at (take i at) c ≢ None) where
-  -- no context stands under a register's key
-  pub no_way_register : (k : Key) → t ≡ RegT k → node_at at c ≡ None
-  no_way_register k s = no_way at i t c h e p (rw s (go (find key_cmp k (registers (context_at (take i at) c)))))
-    where
-      go : (o : Option Register) → node_in (values_of o) ≡ None
-      go None = refl
-      go (Some r) = refl
-
-  pub no_way_absent : false ≡ is_some (content t (context_at (take i at) c)) → node_at at c ≡ None
-  no_way_absent f = no_way at i t c h e p (go (content t (context_at (take i at) c)) f)
-    where
-      go : (o : Option Content) → false ≡ is_some o → node_in o ≡ None
-      go None f = refl
-      go (Some x) f = let no : ⊥ = cc in absurd no
-
-  pub way_on : ((k : Key) → t ≡ RegT k → ⊥) → true ≡ is_some (content t (context_at (take i at) c)) → node_at (take (i + 1) at) c ≢ None
-  way_on n f = rw (further at i t c h e p) (go t n f)
-    where
-      some : (o : Option Context) → true ≡ is_some (node_of o) → node_in (node_of o) ≢ None
-      some None f g = let no : ⊥ = cc in no
-      some (Some d) f g = let no : ⊥ = cc in no
-
-      go : (t : Tagged) → ((k : Key) → t ≡ RegT k → ⊥) → true ≡ is_some (content t (context_at (take i at) c)) → node_in (content t (context_at (take i at) c)) ≢ None
-      go (MapT k) n f = some (find key_cmp k (maps (context_at (take i at) c))) f
-      go (ListT k) n f = some (find key_cmp k (lists (context_at (take i at) c))) f
-      go (RegT k) n f = absurd (n k refl)
 
 -- a map or a list that is there is a context
 pub found_node : (x : Option Context) → is_some (node_of x) ≡ true → (d : Context) × (node_of x ≡ Some (Node d))

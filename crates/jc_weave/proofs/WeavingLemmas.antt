@@ -51,20 +51,6 @@ after_turn s seed limit K M es fs ss us b t = record {
   stuck = t.stuck ∙ (ap (λ l. l ++ with_stuck t.turn []) b.stuck ∙ sym (stucks_more b.turns t.turn));
 }
 
--- before all turns
-pub after_none : (s : Scenario) (net : NetworkHistory) (seed limit : ℕ) (phases : List Phase) (live : List ℕ) (g : Lcg) → IsStarted s net → phases ≡ all_start net.names → live ≡ numbers_from 0 net.names → g ≡ seeded seed → IsLoomAfter s seed limit (loom net.history.now phases live g limit) [] []
-after_none s net seed limit phases live g is are numbers seeds =
-    let first : all_start s.names ≡ phases = ap all_start (sym is.names) ∙ sym are in
-    let all : numbers_from 0 s.names ≡ live = ap (numbers_from 0) (sym is.names) ∙ sym numbers in
-    record {
-      start = net.history.now;
-      is_start = is.start;
-      turns = [];
-      weaves = λ i. loom net.history.now (first i) (all i) (sym seeds i) limit;
-      events = refl;
-      stuck = refl;
-    }
-
 -- the drawn replica makes an event
 pub made_turn : (N N2 : Network) (phases phases2 : List Phase) (live live2 : List ℕ) (g g2 : Lcg) (left left2 : ℕ) (es fs : List Event) (ss us : List Stuck) (p : ℕ) (e : Event) (next : Phase) (rows : List (Rule × ℕ))
     → 0 < left → live ≢ [] → p ≡ drawn_of (pool N.states phases live) g → g2 ≡ (pcg32 g).1 → choice N.states p (phase_at phases p) ≡ Some (e, next) → StepIn N e N2 rows

@@ -11,36 +11,32 @@ use Rattle.jc_apply.proofs.entering.enter_below.Goals as goal
 use Rattle.jc_rules.proofs.BoolLemmas.{none_of}
 
 pub returns-in-Some-clause-ok : goal.returns-in-Some-clause-ok
-returns-in-Some-clause-ok g c =
-    let some = some_content c.args.key.now (here c.args.at.now (g.S.TreeStore.tree c.args.store.now)) c.requires.context in
-    entered_there _ _ _ _ _ _ c.requires.there c.requires.context (sym ((c.in-Some.ensures.some c.args.at.now c.requires.named) ∙ some)) c.in_ok-push.ensures.ok refl
+returns-in-Some-clause-ok g c at named =
+    let some = some_content c.args.key.now (here at (g.S.TreeStore.tree c.args.store.now)) c.requires.context in
+    entered_there _ _ _ _ _ _ (g.met.S.TreeStore.there _ _ _ named) c.requires.context (sym (c.in-Some.ensures.some at named ∙ some)) c.in_ok-push.ensures.ok refl
 
 pub unreachable-requires : goal.unreachable-requires
 unreachable-requires g c =
-    let at = c.args.at.now in
+    let at = c.requires.named.0 in
+    let named = c.requires.named.1 in
     let key = c.args.key.now in
     let old = g.S.TreeStore.tree c.args.store.now in
     let new = g.S.TreeStore.tree c.make_child_at.new.self in
-    let changed = c.in_ok-make_child_at.ensures.ok at c.requires.named in
-    let here_now : here at new ≡ with_content key (new_content key) (here at old) = here_changed at _ old new c.requires.there changed in
-    let no : false ≡ true = c.in-None.ensures.some at (c.in_ok-make_child_at.ensures.names_stay c.args.place at c.requires.named) ∙ ap (λ d. is_some (node_in (content key d))) here_now ∙ child_there key (here at old) c.requires.context in
+    let there = g.met.S.TreeStore.there _ _ _ named in
+    let here_now : here at new ≡ with_content key (new_content key) (here at old) = here_changed at _ old new there (c.in_ok-make_child_at.ensures.ok at named) in
+    let no : false ≡ true = c.in-None.ensures.some at (c.in_ok-make_child_at.ensures.names_stay _ _ named) ∙ ap (λ d. is_some (node_in (content key d))) here_now ∙ child_there key (here at old) c.requires.context in
     cc
 
 pub returns-clause-ok : goal.returns-clause-ok
-returns-clause-ok g c =
-    let old = here c.args.at.now (g.S.TreeStore.tree c.args.store.now) in
-    let none : content c.args.key.now old ≡ None = none_of _ (sym (c.in_default.ensures.some c.args.at.now c.requires.named ∙ some_content c.args.key.now old c.requires.context)) in
-    entered_new _ _ c.child_rule.result _ _ _ _ c.requires.context none (c.child_rule.ensures _ none) c.in_ok-push-2.ensures.ok (c.in_ok-make_child_at.ensures.ok c.args.at.now c.requires.named)
+returns-clause-ok g c at named =
+    let old = here at (g.S.TreeStore.tree c.args.store.now) in
+    let none : content c.args.key.now old ≡ None = none_of _ (sym (c.in_default.ensures.some at named ∙ some_content c.args.key.now old c.requires.context)) in
+    entered_new _ _ c.child_rule.result _ _ _ _ c.requires.context none (c.child_rule.ensures _ none) c.in_ok-push-2.ensures.ok (c.in_ok-make_child_at.ensures.ok at named)
 
 pub returns-clause-links : goal.returns-clause-links
-returns-clause-links g c =
-    none_child c.args.at.now c.args.key.now _ _ c.requires.there (c.in_ok-make_child_at.ensures.ok c.args.at.now c.requires.named)
+returns-clause-links g c at named =
+    none_child at c.args.key.now _ _ (g.met.S.TreeStore.there _ _ _ named) (c.in_ok-make_child_at.ensures.ok at named)
 
 pub returns-clause-kept : goal.returns-clause-kept
 returns-clause-kept g c =
-    then _ _ _ _ _ _ (rule_added _ _ _ _ c.child_rule.result refl c.in_ok-push-2.ensures.ok) (tree_changed _ _ _ _ _ _ (c.in_ok-make_child_at.ensures.ok c.args.at.now c.requires.named) refl)
-
-pub make_child_at-requires : goal.make_child_at-requires
-make_child_at-requires g c =
-    let old = here c.args.at.now (g.S.TreeStore.tree c.args.store.now) in
-    (c.args.at.now, c.requires.named, none_of _ (sym (c.in_default.ensures.some c.args.at.now c.requires.named ∙ some_content c.args.key.now old c.requires.context)))
+    then _ _ _ _ _ _ (rule_added _ _ _ _ c.child_rule.result refl c.in_ok-push-2.ensures.ok) (tree_changed _ _ _ _ _ _ (c.in_ok-make_child_at.ensures.ok c.requires.named.0 c.requires.named.1) refl)

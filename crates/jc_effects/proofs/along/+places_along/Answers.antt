@@ -1,24 +1,37 @@
-use Rattle.std.proofs.Common.{◌≡◌, ◌+◌, ◌<◌, List, [], ◌∷◌, ◌++◌, length, take, drop, sym, ◌∙◌, ap, subst, arith}
+use Rattle.std.proofs.Common.{◌≡◌, ◌+◌, ◌<◌, List, [], ◌∷◌, ◌++◌, length, get_or, take, drop, sym, ◌∙◌, ap, subst, arith}
 use Rattle.jc_rules.specs.declared.key.Tagged.{Tagged}
 use Rattle.jc_meaning.specs.Seen.{seen}
 use Rattle.jc_effects.specs.Difference.{IsDifference}
-use Rattle.jc_effects.specs.Parts.{differences_of}
+use Rattle.jc_effects.specs.Parts.{AreContexts, differences_of}
 use Rattle.jc_effects.proofs.PartsAlongLemmas.{below_longer, split_at, longer_at}
 use Rattle.jc_effects.proofs.along.+places_along.Goals as goal
 
-pub place_on_path-requires-clause-path : goal.place_on_path-requires-clause-path
-place_on_path-requires-clause-path g t c =
-    let path = c.as_slice-path.result.now in
-    let within : c.args.depth < length path = omega (arith, ap length c.as_slice-path.ensures.keys) in
-    (drop (c.args.depth + 1) path, sym c.as_slice-path.ensures.keys ∙ split_at path c.args.depth c.index-path-depth.result within c.index-path-depth.is)
+pub contexts_below-requires : goal.contexts_below-requires
+contexts_below-requires g t c = (take c.args.depth c.args.change.now.op.now.cursor.path, c.requires.contexts)
 
-pub place_on_path-requires-clause-inside : goal.place_on_path-requires-clause-inside
-place_on_path-requires-clause-inside g t c =
+pub places_along-requires : goal.places_along-requires
+places_along-requires g t c κs h =
+    let old = c.args.change.now.old.now in
+    let new = c.args.change.now.new.now in
+    let n = c.args.depth in
+    let path = c.args.change.now.op.now.cursor.path in
+    let key = c.index-path-depth.result in
+    let within : n < length path = omega (arith, ap length c.as_slice-path.ensures.keys) in
+    let is = c.index-path-depth.is ∙ ap (λ (ps : List Tagged). get_or ps n key) c.as_slice-path.ensures.keys in
+    let contexts = subst (λ (p : List Tagged). AreContexts (g.S.TreeStore.names old) (g.S.TreeStore.names new) (g.S.TreeStore.tree old) (g.S.TreeStore.tree new) p c.contexts_below-inside.result) (sym (longer_at path n key within is)) (c.contexts_below-inside.ensures (take n path) c.requires.contexts) in
+    (omega (arith, within), (h, (c.requires.changed, (contexts, omega (arith, within)))))
+
+pub place_on_path-requires-clause-contexts : goal.place_on_path-requires-clause-contexts
+place_on_path-requires-clause-contexts g t c = (take c.args.depth c.args.change.now.op.now.cursor.path, c.requires.contexts)
+
+pub returns : goal.returns
+returns g t c =
     let old = (g.S.TreeStore.tree c.args.change.now.old.now).now in
     let new = (g.S.TreeStore.tree c.args.change.now.new.now).now in
-    let path = c.as_slice-path.result.now in
-    let within : c.args.depth < length path = omega (arith, ap length c.as_slice-path.ensures.keys) in
-    let longer : take (c.args.depth + 1) c.args.change.now.op.now.cursor.path ≡ take c.args.depth path ++ c.index-path-depth.result ∷ [] =
-    ap (take (c.args.depth + 1)) (sym c.as_slice-path.ensures.keys) ∙ longer_at path c.args.depth c.index-path-depth.result within c.index-path-depth.is in
-    below_longer (take c.args.depth path) c.index-path-depth.result old new (differences_of c.in_ok-effects.effects)
-    (subst (λ (p : List Tagged). IsDifference (seen p old) (seen p new) (differences_of c.in_ok-effects.effects)) longer c.in_ok-effects.ensures)
+    let n = c.args.depth in
+    let path = c.args.change.now.op.now.cursor.path in
+    let key = c.index-path-depth.result in
+    let within : n < length path = omega (arith, ap length c.as_slice-path.ensures.keys) in
+    let is = c.index-path-depth.is ∙ ap (λ (ps : List Tagged). get_or ps n key) c.as_slice-path.ensures.keys in
+    let inside = below_longer (take n path) key old new (differences_of c.in_ok-effects.effects) (subst (λ (p : List Tagged). IsDifference (seen p old) (seen p new) (differences_of c.in_ok-effects.effects)) (longer_at path n key within is) c.in_ok-effects.ensures) in
+    c.place_on_path.ensures (take n path) (drop (n + 1) path) c.requires.contexts (split_at path n key within is) inside

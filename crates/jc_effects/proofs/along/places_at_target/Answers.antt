@@ -1,4 +1,4 @@
-use Rattle.std.proofs.Common.{sym, ◌∙◌}
+use Rattle.std.proofs.Common.{refl, sym, ◌∙◌}
 use Rattle.std.proofs.lemmas.Result.{IfOk-weaker}
 use Rattle.jc_effects.specs.Parts.{differences_of}
 use Rattle.jc_effects.proofs.PartsAlongLemmas.{target_all}
@@ -12,5 +12,5 @@ returns g c =
     let new = (g.S.TreeStore.tree c.args.change.now.new.now).now in
     let no_insert = sym c.is_insert.ensures ∙ c.if-is_insert.false in
     IfOk-weaker c.place_at_target.result _ _
-    (λ e f. target_all o old new c.requires.changed c.in_ok-at.at.items o.cursor.last (differences_of e) (c.in_ok-at.ensures ∙ c.as_slice.ensures.keys) (other_target o no_insert) no_insert f)
+    (λ e f. target_all o old new c.requires.changed o.cursor.path o.cursor.last (differences_of e) refl (other_target o no_insert) no_insert f)
     c.place_at_target.ensures

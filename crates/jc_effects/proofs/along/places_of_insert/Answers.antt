@@ -1,11 +1,9 @@
-use Rattle.std.proofs.Common.{◌≡◌, List, [], ◌∷◌, sym, ◌∙◌, subst}
+use Rattle.std.proofs.Common.{◌≡◌, [], ◌∷◌, sym, ◌∙◌}
 use Rattle.std.specs.declared.cmp.Ordering.TheVariants.{Less}
 use Rattle.std.proofs.lemmas.Result.{IfOk-weaker}
 use Rattle.jc_rules.specs.declared.key.Key.TheVariants as K
-use Rattle.jc_rules.specs.declared.key.Tagged.{Tagged}
 use Rattle.jc_rules.specs.Order.{key_cmp}
 use Rattle.jc_meaning.specs.Seen.{seen}
-use Rattle.jc_effects.specs.Difference.{IsDifference}
 use Rattle.jc_effects.specs.Parts.{IsDifferenceAmong, differences_of}
 use Rattle.jc_effects.proofs.OneLemmas.{is_less}
 use Rattle.jc_effects.proofs.PartsAmongLemmas.{none_among}
@@ -20,11 +18,9 @@ returns-then-is_lt g c =
     let new = (g.S.TreeStore.tree c.args.change.now.new.now).now in
     let k = c.in_ok-before.before in
     let lesser : key_cmp k (K.Elem o.id) ≡ Less = sym c.compare_keys.ensures ∙ is_less c.compare_keys.result (sym c.is_lt.ensures ∙ c.if-is_lt.true) in
-    let among : IsDifferenceAmong (K.Elem o.id ∷ []) (seen o.cursor.path old) (seen o.cursor.path new) (differences_of c.in_ok-rest.rest) =
-    subst (λ (p : List Tagged). IsDifferenceAmong (K.Elem o.id ∷ []) (seen p old) (seen p new) (differences_of c.in_ok-rest.rest)) c.requires.path (c.in_ok-rest.ensures [] tt (none_among _ _)) in
+    let among : IsDifferenceAmong (K.Elem o.id ∷ []) (seen o.cursor.path old) (seen o.cursor.path new) (differences_of c.in_ok-rest.rest) = c.in_ok-rest.ensures [] tt (none_among _ _) in
     IfOk-weaker c.place_of_link.result _ _
-    (λ e f. subst (λ (p : List Tagged). IsDifference (seen p old) (seen p new) (differences_of e)) (sym c.requires.path)
-    (link_first o old new c.requires.changed c.requires.inserts k c.in_ok-before.ensures (differences_of e) (f (K.Elem o.id ∷ []) (lesser, tt) among)))
+    (λ e f. link_first o old new c.requires.changed c.requires.inserts k c.in_ok-before.ensures (differences_of e) (f (K.Elem o.id ∷ []) (lesser, tt) among))
     c.place_of_link.ensures
 
 pub place_of_link-requires-else-is_lt-clause-other : goal.place_of_link-requires-else-is_lt-clause-other
@@ -39,10 +35,7 @@ returns g c =
     let new = (g.S.TreeStore.tree c.args.change.now.new.now).now in
     let k = c.in_ok-before.before in
     let lesser : key_cmp (K.Elem o.id) k ≡ Less = element_lesser o (seen o.cursor.path old) k c.requires.inserts c.in_ok-before.ensures c.compare_keys.result c.compare_keys.ensures (sym c.is_lt.ensures ∙ c.if-is_lt.false) in
-    let among : IsDifferenceAmong (k ∷ []) (seen c.args.at.now.items old) (seen c.args.at.now.items new) (differences_of c.in_ok-rest-2.rest) =
-    subst (λ (p : List Tagged). IsDifferenceAmong (k ∷ []) (seen p old) (seen p new) (differences_of c.in_ok-rest-2.rest)) (sym c.requires.path) (c.in_ok-rest-2.ensures [] tt (none_among _ _)) in
+    let among : IsDifferenceAmong (k ∷ []) (seen o.cursor.path old) (seen o.cursor.path new) (differences_of c.in_ok-rest-2.rest) = c.in_ok-rest-2.ensures [] tt (none_among _ _) in
     IfOk-weaker c.place_at_target-else-is_lt.result _ _
-    (λ e f. subst (λ (p : List Tagged). IsDifference (seen p old) (seen p new) (differences_of e)) (sym c.requires.path)
-    (element_first o old new c.requires.changed c.requires.inserts k c.in_ok-before.ensures (differences_of e)
-    (subst (λ (p : List Tagged). IsDifferenceAmong (K.Elem o.id ∷ k ∷ []) (seen p old) (seen p new) (differences_of e)) c.requires.path (f (k ∷ []) (lesser, tt) among))))
+    (λ e f. element_first o old new c.requires.changed c.requires.inserts k c.in_ok-before.ensures (differences_of e) (f (k ∷ []) (lesser, tt) among))
     c.place_at_target-else-is_lt.ensures

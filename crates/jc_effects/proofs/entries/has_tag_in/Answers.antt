@@ -7,25 +7,38 @@ use Rattle.jc_effects.proofs.PartsReadLemmas.{is_new, tag_read, register_read, c
 use Rattle.jc_effects.proofs.entries.has_tag_in.Goals as goal
 
 pub returns-in_default : goal.returns-in_default
-returns-in_default g c =
-    let tree = g.S.TreeStore.tree c.args.store.now in
-    let none = subst (IsNameOf (g.S.TreeStore.names c.args.store.now) tree c.args.at.now) c.in_default.is c.requires in
-    sym ((is_new c.args.at.now tree.now none).tags c.args.tagged.now)
+returns-in_default g c at named =
+    let store = c.args.store.now in
+    let tree = g.S.TreeStore.tree store in
+    let none = subst (IsNameOf (g.S.TreeStore.names store) tree at) c.in_default.is named in
+    sym ((is_new at tree.now none).tags c.args.tagged.now)
+
+pub map_by-requires : goal.map_by-requires
+map_by-requires g c = (c.requires.0, subst (IsNameOf (g.S.TreeStore.names c.args.store.now) (g.S.TreeStore.tree c.args.store.now) c.requires.0) c.in-Some.is c.requires.1)
+
+pub list_by-requires : goal.list_by-requires
+list_by-requires g c = (c.requires.0, subst (IsNameOf (g.S.TreeStore.names c.args.store.now) (g.S.TreeStore.tree c.args.store.now) c.requires.0) c.in-Some.is c.requires.1)
+
+pub register_by-requires : goal.register_by-requires
+register_by-requires g c = (c.requires.0, subst (IsNameOf (g.S.TreeStore.names c.args.store.now) (g.S.TreeStore.tree c.args.store.now) c.requires.0) c.in-Some.is c.requires.1)
 
 pub returns-in-MapT : goal.returns-in-MapT
-returns-in-MapT g c =
-    let tree = g.S.TreeStore.tree c.args.store.now in
-    let named = subst (IsNameOf (g.S.TreeStore.names c.args.store.now) tree c.args.at.now) c.in-Some.is c.requires in
-    tag_read c.args.at.now (MapT c.in-MapT.key) tree _ named.0 (c.is_some.ensures ∙ (c.map_by.ensures.some c.args.at.now named.1)) ∙ ap (λ (u : Tagged). has_tag u (seen c.args.at.now tree.now)) (sym c.in-MapT.is)
+returns-in-MapT g c at named =
+    let store = c.args.store.now in
+    let tree = g.S.TreeStore.tree store in
+    let found = subst (IsNameOf (g.S.TreeStore.names store) tree at) c.in-Some.is named in
+    tag_read at (MapT c.in-MapT.key) tree _ (g.met.S.TreeStore.there store _ at found) (c.is_some.ensures ∙ c.map_by.ensures.some at found) ∙ ap (λ (u : Tagged). has_tag u (seen at tree.now)) (sym c.in-MapT.is)
 
 pub returns-in-ListT : goal.returns-in-ListT
-returns-in-ListT g c =
-    let tree = g.S.TreeStore.tree c.args.store.now in
-    let named = subst (IsNameOf (g.S.TreeStore.names c.args.store.now) tree c.args.at.now) c.in-Some.is c.requires in
-    tag_read c.args.at.now (ListT c.in-ListT.key) tree _ named.0 (c.is_some-in-ListT.ensures ∙ (c.list_by.ensures.some c.args.at.now named.1)) ∙ ap (λ (u : Tagged). has_tag u (seen c.args.at.now tree.now)) (sym c.in-ListT.is)
+returns-in-ListT g c at named =
+    let store = c.args.store.now in
+    let tree = g.S.TreeStore.tree store in
+    let found = subst (IsNameOf (g.S.TreeStore.names store) tree at) c.in-Some.is named in
+    tag_read at (ListT c.in-ListT.key) tree _ (g.met.S.TreeStore.there store _ at found) (c.is_some-in-ListT.ensures ∙ c.list_by.ensures.some at found) ∙ ap (λ (u : Tagged). has_tag u (seen at tree.now)) (sym c.in-ListT.is)
 
 pub returns-in-RegT : goal.returns-in-RegT
-returns-in-RegT g c =
-    let tree = g.S.TreeStore.tree c.args.store.now in
-    let named = subst (IsNameOf (g.S.TreeStore.names c.args.store.now) tree c.args.at.now) c.in-Some.is c.requires in
-    register_read c.args.at.now c.in-RegT.key tree _ _ named.0 (c.register_by.ensures c.args.at.now named.1) (c.is_some-in-RegT.ensures ∙ copied_some _) ∙ ap (λ (u : Tagged). has_tag u (seen c.args.at.now tree.now)) (sym c.in-RegT.is)
+returns-in-RegT g c at named =
+    let store = c.args.store.now in
+    let tree = g.S.TreeStore.tree store in
+    let found = subst (IsNameOf (g.S.TreeStore.names store) tree at) c.in-Some.is named in
+    register_read at c.in-RegT.key tree _ _ (g.met.S.TreeStore.there store _ at found) (c.register_by.ensures at found) (c.is_some-in-RegT.ensures ∙ copied_some _) ∙ ap (λ (u : Tagged). has_tag u (seen at tree.now)) (sym c.in-RegT.is)

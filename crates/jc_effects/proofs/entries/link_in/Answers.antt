@@ -5,11 +5,15 @@ use Rattle.jc_effects.specs.Parts.{IsNameOf}
 use Rattle.jc_effects.proofs.PartsReadLemmas.{seen_here, seen_none}
 use Rattle.jc_effects.proofs.entries.link_in.Goals as goal
 
+pub step_by-requires : goal.step_by-requires
+step_by-requires g c = (c.args.at.now, subst (IsNameOf (g.S.TreeStore.names c.args.store.now) (g.S.TreeStore.tree c.args.store.now) c.args.at.now) c.in-Some.is c.requires)
+
 pub returns-in-Some : goal.returns-in-Some
 returns-in-Some g c =
-    let tree = g.S.TreeStore.tree c.args.store.now in
-    let named = subst (IsNameOf (g.S.TreeStore.names c.args.store.now) tree c.args.at.now) c.in-Some.is c.requires in
-    (c.step_by.ensures.next c.args.at.now named.1) ∙ ap (next c.args.key.now) (sym (seen_here c.args.at.now tree named.0))
+    let store = c.args.store.now in
+    let tree = g.S.TreeStore.tree store in
+    let found = subst (IsNameOf (g.S.TreeStore.names store) tree c.args.at.now) c.in-Some.is c.requires in
+    c.step_by.ensures.next c.args.at.now found ∙ ap (next c.args.key.now) (sym (seen_here c.args.at.now tree (g.met.S.TreeStore.there store _ c.args.at.now found)))
 
 pub returns-in-None : goal.returns-in-None
 returns-in-None g c =

@@ -1,140 +1,70 @@
-use Rattle.std.proofs.Common.{Bor, Option, Bool, not, IsTrue, ◌↔◌, rules, ◌≡◌, ◌<◌, List, [], ◌∷◌, ◌++◌, true, false, Some, None, is_some, option_copied, refl, arith, ap, sym, ◌∙◌, subst}
+use Rattle.std.proofs.Common.{IsTrue, ◌↔◌, sym, ◌∙◌, arith}
 use Rattle.std.proofs.lemmas.Result.{IfOk-weaker}
-use Rattle.jc_rules.specs.declared.key.Key.{Key}
-use Rattle.jc_rules.specs.declared.key.Tagged.{Tagged}
-use Rattle.jc_rules.specs.Context.{content, keys}
-use Rattle.jc_rules.specs.ContextsAt.{node_in}
+use Rattle.jc_rules.specs.declared.key.Tagged.TheVariants.{MapT, ListT}
 use Rattle.jc_rules.specs.WellFormed.{IsWellFormedContext}
-use Rattle.jc_tree.specs.Tree.{here, least_after}
-use Rattle.jc_tree.specs.Nested.{nested}
-use Rattle.jc_tree.proofs.PlacesLemmas.{some_content}
-use Rattle.jc_tree.proofs.WalksLemmas.{IsNext, next_is}
-use Rattle.jc_meaning.specs.Compared.{SameTree, IsSameKey, ArePresencesSame, AreLinksSame}
-use Rattle.jc_meaning.proofs.ComparedContextsLemmas.{StandsBelow, stands_below, same_below, below_same, none_first, kept_here, next_same, both_go_on, both_end, together, presences_same, keys_same}
+use Rattle.jc_tree.specs.Tree.{here}
+use Rattle.jc_meaning.specs.Compared.{SameTree, IsSameKey, HasKeys}
+use Rattle.jc_meaning.proofs.ComparedContextsLemmas.{is_below, kept_here, one_more, at_keys, keys_same, decided}
 use Rattle.jc_meaning.proofs.sameness.+walk.Goals as goal
 
-none_copied : (o : Option (Bor Key)) → is_some o ≡ false → option_copied o ≡ None
-none_copied None e = refl
-none_copied (Some k) e = cc
+pub same_key-same_child-requires : goal.same_key-same_child-requires
+same_key-same_child-requires g t c κs within =
+    let left = is_below (g.S.TreeStore.tree c.args.left.now) (g.met.S.TreeStore.one c.args.left.now) (g.met.S.TreeStore.there c.args.left.now) c.args.key.place c.requires.left in
+    let right = is_below (g.T.TreeStore.tree c.args.right.now) (g.met.T.TreeStore.one c.args.right.now) (g.met.T.TreeStore.there c.args.right.now) c.args.other c.requires.right in
+    let x = left (MapT c.args.key.key.now) tt c.map_by-map.result c.map_by-map.ensures.some c.map_by-map.ensures.named in
+    let y = right (MapT c.args.key.key.now) tt c.map_by-other_map.result c.map_by-other_map.ensures.some c.map_by-other_map.ensures.named in
+    (omega (arith, x.fewer, c.decreases), (within.0, (within.1, (x.named, y.named))))
 
-copied_none : (o : Option (Bor Key)) → option_copied o ≡ None → is_some o ≡ false
-copied_none None e = refl
-copied_none (Some k) e = cc
+pub same_key-returns-then-not-branch : goal.same_key-returns-then-not-branch
+same_key-returns-then-not-branch g t c =
+    let left = is_below (g.S.TreeStore.tree c.args.left.now) (g.met.S.TreeStore.one c.args.left.now) (g.met.S.TreeStore.there c.args.left.now) c.args.key.place c.requires.left in
+    let right = is_below (g.T.TreeStore.tree c.args.right.now) (g.met.T.TreeStore.one c.args.right.now) (g.met.T.TreeStore.there c.args.right.now) c.args.other c.requires.right in
+    let x = left (MapT c.args.key.key.now) tt c.map_by-map.result c.map_by-map.ensures.some c.map_by-map.ensures.named in
+    let y = right (MapT c.args.key.key.now) tt c.map_by-other_map.result c.map_by-other_map.ensures.some c.map_by-other_map.ensures.named in
+    let maps = rw (x.is, y.is) at c.in_ok-same_child.ensures in
+    (λ s. cc, λ s. sym c.if-not-branch.true ∙ maps.1 s.maps)
 
-flip : (a b : Bool) → a ≡ not b → b ≡ not a
-flip a true e = rw e refl
-flip a false e = rw e refl
+pub same_key-same_child-requires-2 : goal.same_key-same_child-requires-2
+same_key-same_child-requires-2 g t c κs within =
+    let left = is_below (g.S.TreeStore.tree c.args.left.now) (g.met.S.TreeStore.one c.args.left.now) (g.met.S.TreeStore.there c.args.left.now) c.args.key.place c.requires.left in
+    let right = is_below (g.T.TreeStore.tree c.args.right.now) (g.met.T.TreeStore.one c.args.right.now) (g.met.T.TreeStore.there c.args.right.now) c.args.other c.requires.right in
+    let x = left (ListT c.args.key.key.now) tt c.list_by-list.result c.list_by-list.ensures.some c.list_by-list.ensures.named in
+    let y = right (ListT c.args.key.key.now) tt c.list_by-other_list.result c.list_by-other_list.ensures.some c.list_by-other_list.ensures.named in
+    (omega (arith, x.fewer, c.decreases), (within.0, (within.1, (x.named, y.named))))
 
-is_not : (b : Bool) → false ≡ not b → b ≡ true
-is_not true e = refl
-is_not false e = cc
+pub same_key-returns : goal.same_key-returns
+same_key-returns g t c =
+    let left = is_below (g.S.TreeStore.tree c.args.left.now) (g.met.S.TreeStore.one c.args.left.now) (g.met.S.TreeStore.there c.args.left.now) c.args.key.place c.requires.left in
+    let right = is_below (g.T.TreeStore.tree c.args.right.now) (g.met.T.TreeStore.one c.args.right.now) (g.met.T.TreeStore.there c.args.right.now) c.args.other c.requires.right in
+    let x = left (MapT c.args.key.key.now) tt c.map_by-map.result c.map_by-map.ensures.some c.map_by-map.ensures.named in
+    let y = right (MapT c.args.key.key.now) tt c.map_by-other_map.result c.map_by-other_map.ensures.some c.map_by-other_map.ensures.named in
+    let maps = rw (x.is, y.is) at c.in_ok-same_child.ensures in
+    let z = left (ListT c.args.key.key.now) tt c.list_by-list.result c.list_by-list.ensures.some c.list_by-list.ensures.named in
+    let w = right (ListT c.args.key.key.now) tt c.list_by-other_list.result c.list_by-other_list.ensures.some c.list_by-other_list.ensures.named in
+    IfOk-weaker c.same_child-2.result _ _ (λ same h. (λ s. record { maps = maps.0 c.if-not-branch.false; lists = h.0 s; entries = c.same_entries.ensures.0 c.if-not-same_entries.false }, λ s. h.1 s.lists)) (rw (z.is, w.is) at c.same_child-2.ensures)
 
-pub same_child-same_place-requires : goal.same_child-same_place-requires
-same_child-same_place-requires g t c κs within =
+pub same_place-loop-lent-preserved : goal.same_place-loop-lent-preserved
+same_place-loop-lent-preserved g t c =
+    one_more (IsSameKey (here (g.S.TreeStore.path c.args.left.now c.args.place) (g.S.TreeStore.tree c.args.left.now)) (here (g.T.TreeStore.path c.args.right.now c.args.other) (g.T.TreeStore.tree c.args.right.now))) c.as_slice-lent-items.result.now c.loop-lent.lent-index c.lent-item.result c.loop-lent-test.true c.lent-item.is (c.in_ok-same_key.ensures.0 c.if-not-branch.false) c.loop-lent.invariant
+
+pub same_place-returns-then-not-branch : goal.same_place-returns-then-not-branch
+same_place-returns-then-not-branch g t c =
     let left = g.S.TreeStore.tree c.args.left.now in
     let right = g.T.TreeStore.tree c.args.right.now in
-    let at = c.args.at.now.items in
-    let tagged = c.args.tagged in
-    let some_left : is_some (content tagged (here at left)) ≡ true = sym (c.in-Some.ensures.some c.args.at.now.items c.requires.left_named ∙ some_content tagged (here at left) c.requires.node) in
-    let some_right : is_some (content tagged (here at right)) ≡ true = sym (c.in-Some-below.ensures.some c.args.at.now.items c.requires.right_named ∙ some_content tagged (here at right) c.requires.node) in
-    let x : StandsBelow at tagged left = stands_below at tagged left c.requires.left c.requires.node some_left in
-    let y : StandsBelow at tagged right = stands_below at tagged right c.requires.right c.requires.node some_right in
-    let pushed : c.push.new.self.items ≡ at ++ tagged ∷ [] = search rules in
-    let small : nested (here c.push.new.self.items left) < nested (here at left) = rw pushed x.smaller in
-    (omega (arith, small, c.decreases), (within.0, (within.1, (rw pushed x.there, (rw pushed y.there, (rw pushed (c.in-Some.ensures.named c.args.at.now.items c.requires.left_named), rw pushed (c.in-Some-below.ensures.named c.args.at.now.items c.requires.right_named)))))))
+    let at = g.S.TreeStore.path c.args.left.now c.args.place in
+    let to = g.T.TreeStore.path c.args.right.now c.args.other in
+    let kl : IsWellFormedContext (here at left) = kept_here at left (g.met.S.TreeStore.there c.args.left.now c.args.place at c.requires.left) (g.met.S.TreeStore.kept c.args.left.now) in
+    let kr : IsWellFormedContext (here to right) = kept_here to right (g.met.T.TreeStore.there c.args.right.now c.args.other to c.requires.right) (g.met.T.TreeStore.kept c.args.right.now) in
+    (λ s. cc, λ e. sym c.if-not-branch.true ∙ c.in_ok-same_key.ensures.1 (keys_same (here at left) (here to right) kl kr e c.lent-item.result.0.now))
 
-pub same_child-returns-in_default-clause-same : goal.same_child-returns-in_default-clause-same
-same_child-returns-in_default-clause-same g t c =
+pub same_place-returns : goal.same_place-returns
+same_place-returns g t c =
     let left = g.S.TreeStore.tree c.args.left.now in
     let right = g.T.TreeStore.tree c.args.right.now in
-    let at = c.args.at.now.items in
-    none_first (node_in (content c.args.tagged (here at left))) (node_in (content c.args.tagged (here at right))) c.is_none.result (sym (c.in_default.ensures.some c.args.at.now.items c.requires.left_named)) (flip (is_some c.below-in_default.result) c.is_none.result c.is_none.ensures ∙ ap not (c.below-in_default.ensures.some c.args.at.now.items c.requires.right_named))
-
-pub same_child-returns-clause-same : goal.same_child-returns-clause-same
-same_child-returns-clause-same g t c =
-    let left = g.S.TreeStore.tree c.args.left.now in
-    let right = g.T.TreeStore.tree c.args.right.now in
-    let at = c.args.at.now.items in
-    let tagged = c.args.tagged in
-    let some_left : is_some (content tagged (here at left)) ≡ true = sym (c.in-Some.ensures.some c.args.at.now.items c.requires.left_named ∙ some_content tagged (here at left) c.requires.node) in
-    let some_right : is_some (content tagged (here at right)) ≡ true = sym (c.in-Some-below.ensures.some c.args.at.now.items c.requires.right_named ∙ some_content tagged (here at right) c.requires.node) in
-    let x : StandsBelow at tagged left = stands_below at tagged left c.requires.left c.requires.node some_left in
-    let y : StandsBelow at tagged right = stands_below at tagged right c.requires.right c.requires.node some_right in
-    let pushed : c.push.new.self.items ≡ at ++ tagged ∷ [] = search rules in
-    let e = c.in_ok-same.ensures.same in (
-      λ s. same_below at tagged left right x y (subst (λ (z : List Tagged). SameTree (here z left) (here z right)) pushed (e.0 s)),
-      λ s. e.1 (subst (λ (z : List Tagged). SameTree (here z left) (here z right)) (sym pushed) (below_same at tagged left right x y s)),
-    )
-
-pub same_keys-returns-then-not-is_key-clause-same :
-    goal.same_keys-returns-then-not-is_key-clause-same
-same_keys-returns-then-not-is_key-clause-same g t c =
-    let left = g.S.TreeStore.tree c.args.left.now in
-    let right = g.T.TreeStore.tree c.args.right.now in
-    let at = c.args.at.now.items in
-    let last = option_copied c.loop-key.last in
-    let key = c.in-Some.key.now in
-    let nl : least_after last (keys (here at left)) ≡ Some key = sym (c.in-Some.ensures c.args.at.now.items c.requires.left_named) in
-    let nr : option_copied c.after_at-in-Some.result ≡ least_after last (keys (here at right)) = c.after_at-in-Some.ensures c.args.at.now.items c.requires.right_named in
-    (λ s. cc, λ all. sym c.if-not-is_key.true ∙ c.is_key.ensures.1 (nr ∙ sym (next_same (here at left) (here at right) all last) ∙ nl))
-
-pub same_keys-loop-key-smaller : goal.same_keys-loop-key-smaller
-same_keys-loop-key-smaller g t c =
-    let left = g.S.TreeStore.tree c.args.left.now in
-    let d = here c.args.at.now.items left in
-    let last = option_copied c.loop-key.last in
-    let key = c.in-Some.key.now in
-    let n : IsNext last (keys d) key = next_is last (keys d) key (sym (c.in-Some.ensures c.args.at.now.items c.requires.left_named)) in
-    n.fewer
-
-pub same_keys-loop-key-preserved : goal.same_keys-loop-key-preserved
-same_keys-loop-key-preserved g t c =
-    let left = g.S.TreeStore.tree c.args.left.now in
-    let right = g.T.TreeStore.tree c.args.right.now in
-    let at = c.args.at.now.items in
-    let last = option_copied c.loop-key.last in
-    let key = c.in-Some.key.now in
-    let nl : least_after last (keys (here at left)) ≡ Some key = sym (c.in-Some.ensures c.args.at.now.items c.requires.left_named) in
-    let there : option_copied c.after_at-in-Some.result ≡ least_after last (keys (here at right)) = c.after_at-in-Some.ensures c.args.at.now.items c.requires.right_named in
-    let nr : least_after last (keys (here at right)) ≡ Some key = sym there ∙ c.is_key.ensures.0 c.if-not-is_key.false in
-    let same : IsSameKey (here at left) (here at right) key = subst (λ (s : List Tagged). IsSameKey (here s left) (here s right) key) c.loop-key.invariant.0 (c.in_ok-same_key.ensures.same.0 c.if-not-branch.false) in
-    (c.in_ok-same_key.ensures.place ∙ c.loop-key.invariant.0, both_go_on (here at left) (here at right) last key nl nr same c.loop-key.invariant.1)
-
-pub same_keys-returns-clause-same : goal.same_keys-returns-clause-same
-same_keys-returns-clause-same g t c =
-    let left = g.S.TreeStore.tree c.args.left.now in
-    let right = g.T.TreeStore.tree c.args.right.now in
-    let at = c.args.at.now.items in
-    let last = option_copied c.loop-key.last in
-    let nl : least_after last (keys (here at left)) ≡ None = sym (c.in_default.ensures c.args.at.now.items c.requires.left_named) in
-    let nr : option_copied c.after_at-2.result ≡ least_after last (keys (here at right)) = c.after_at-2.ensures c.args.at.now.items c.requires.right_named in (
-      λ s. both_end (here at left) (here at right) last nl (sym nr ∙ none_copied c.after_at-2.result (c.is_none.ensures ∙ ap not s)) c.loop-key.invariant.1,
-      λ all. is_not c.is_none.result (sym (copied_none c.after_at-2.result (nr ∙ sym (next_same (here at left) (here at right) all last) ∙ nl)) ∙ c.is_none.ensures),
-    )
-
-pub same_place-returns-then-not-same_presences-clause-same :
-    goal.same_place-returns-then-not-same_presences-clause-same
-same_place-returns-then-not-same_presences-clause-same g t c =
-    let left = g.S.TreeStore.tree c.args.left.now in
-    let right = g.T.TreeStore.tree c.args.right.now in
-    let at = c.args.at.now.items in
-    let kl : IsWellFormedContext (here at left) = kept_here at left c.requires.left (g.met.S.TreeStore.kept c.args.left.now) in
-    let kr : IsWellFormedContext (here at right) = kept_here at right c.requires.right (g.met.T.TreeStore.kept c.args.right.now) in
-    let e = c.as_slice-2.ensures.value in (
-      λ s. cc,
-      λ same. sym c.if-not-same_presences.true
-          ∙ c.same_presences.ensures.1 (subst (λ (s : List Tagged). ArePresencesSame (here s left) (here s right)) (sym e) (presences_same (here at left) (here at right) kl kr same)),
-    )
-
-pub same_place-returns-clause-same : goal.same_place-returns-clause-same
-same_place-returns-clause-same g t c =
-    let left = g.S.TreeStore.tree c.args.left.now in
-    let right = g.T.TreeStore.tree c.args.right.now in
-    let at = c.args.at.now.items in
-    let kl : IsWellFormedContext (here at left) = kept_here at left c.requires.left (g.met.S.TreeStore.kept c.args.left.now) in
-    let kr : IsWellFormedContext (here at right) = kept_here at right c.requires.right (g.met.T.TreeStore.kept c.args.right.now) in
-    let links : AreLinksSame (here at left) (here at right) = subst (λ (s : List Tagged). AreLinksSame (here s left) (here s right)) c.as_slice.ensures.value (c.same_links.ensures.0 c.if-not-same_links.false) in
-    let ids : ArePresencesSame (here at left) (here at right) = subst (λ (s : List Tagged). ArePresencesSame (here s left) (here s right)) c.as_slice-2.ensures.value (c.same_presences.ensures.0 c.if-not-same_presences.false) in
-    IfOk-weaker c.same_keys.result (λ same. IsTrue same ↔ ((k : Key) → IsSameKey (here at left) (here at right) k)) (λ same. IsTrue same ↔ SameTree (here at left) (here at right))
-    (λ same h. (λ s. together (here at left) (here at right) kl kr links ids (h.0 s), λ e. h.1 (keys_same (here at left) (here at right) e)))
-    c.same_keys.ensures.same
+    let at = g.S.TreeStore.path c.args.left.now c.args.place in
+    let to = g.T.TreeStore.path c.args.right.now c.args.other in
+    let kl : IsWellFormedContext (here at left) = kept_here at left (g.met.S.TreeStore.there c.args.left.now c.args.place at c.requires.left) (g.met.S.TreeStore.kept c.args.left.now) in
+    let kr : IsWellFormedContext (here to right) = kept_here to right (g.met.T.TreeStore.there c.args.right.now c.args.other to c.requires.right) (g.met.T.TreeStore.kept c.args.right.now) in
+    let walked = at_keys (IsSameKey (here at left) (here to right)) c.as_slice-lent-items.result.now c.in_ok-keys.keys.items c.loop-lent.lent-index (here at left) c.as_slice-lent-items.ensures.value (c.in_ok-keys.ensures.all at c.requires.left) c.loop-lent-test.false c.loop-lent.invariant in
+    let d = decided (here at left) (here to right) kl kr walked in
+    IfOk-weaker c.has_keys.result (λ has. IsTrue has ↔ HasKeys (here at left) (here to right)) (λ same. IsTrue same ↔ SameTree (here at left) (here to right)) (λ same h. (λ s. d.0 (h.0 s), λ e. h.1 (d.1 e))) c.has_keys.ensures

@@ -1,4 +1,4 @@
-use Rattle.std.proofs.Common.{sym, subst, ◌∙◌, ap}
+use Rattle.std.proofs.Common.{sym, subst}
 use Rattle.jc_tree.specs.Blocks.{AreFit, AreSpots}
 use Rattle.jc_tree.proofs.BlocksLemmas.{spots_before, fit_more}
 use Rattle.jc_tree.proofs.blocks.end_empty.Goals as goal

@@ -1,4 +1,4 @@
-use Rattle.std.proofs.Common.{◌≡◌, ◌<◌, ◌∙◌, length, take, true, false, arith}
+use Rattle.std.proofs.Common.{◌≡◌, ◌∙◌, take, true, false}
 use Rattle.jc_tree.proofs.PathLemmas.{leads_on}
 use Rattle.jc_tree.proofs.store.place_at.Goals as goal
 

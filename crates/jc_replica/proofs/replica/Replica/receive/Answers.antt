@@ -10,7 +10,7 @@ use Rattle.jc_replica.specs.Received.{receiving_rule, read_of}
 use Rattle.jc_replica.specs.Undo.{Held, held_of, undone_once}
 use Rattle.jc_replica.proofs.AnswersLemmas.{ready_now}
 use Rattle.jc_replica.proofs.SendLemmas.{front_in_order}
-use Rattle.jc_replica.proofs.ReceiveLemmas.{came_again, offered_now, offered_order, read_order, read_handed, receives_read, refused_read, is_receiving, received_held, received_step, has_received}
+use Rattle.jc_replica.proofs.ReceiveLemmas.{came_again, offered_now, offered_order, read_order, read_handed, receives_read, refused_read, received_held, received_step, has_received}
 use Rattle.jc_replica.proofs.replica.Replica.receive.Goals as goal
 
 pub read_of-requires : goal.read_of-requires

@@ -1,5 +1,5 @@
 use Rattle.std.proofs.Common.{Some, is_some, ◌∷◌, ◌++◌, [], sym, ◌∙◌, ap}
-use Rattle.jc_tree.proofs.ArenaPlacesLemmas.{place_inside, below_some, below_named, at_number}
+use Rattle.jc_tree.proofs.ArenaPlacesLemmas.{below_some, below_named, at_number}
 use Rattle.jc_tree.proofs.arena.ArenaTreeTreeStore.below.Goals as goal
 
 pub returns-in_err-child-clause-some : goal.returns-in_err-child-clause-some

@@ -1,6 +1,6 @@
 use Rattle.std.proofs.Common.{Some, is_some, ◌∷◌, ◌++◌, [], sym, ◌∙◌, ap}
 use Rattle.jc_rules.specs.declared.key.Tagged.TheVariants.{MapT}
-use Rattle.jc_tree.proofs.ArenaPlacesLemmas.{place_inside, below_named, at_number, child_some}
+use Rattle.jc_tree.proofs.ArenaPlacesLemmas.{below_named, at_number, child_some}
 use Rattle.jc_tree.proofs.arena.ArenaTreeTreeStore.map_by.Goals as goal
 
 pub returns-in_err-child-clause-some : goal.returns-in_err-child-clause-some

@@ -1,4 +1,4 @@
-use Rattle.std.proofs.Common.{◌≡◌, List, Option, None, refl, sym, ◌∙◌, ap, subst}
+use Rattle.std.proofs.Common.{List, Option, refl, ◌∙◌, ap, subst}
 use Rattle.jc_rules.specs.declared.key.Next.{Next}
 use Rattle.jc_tree.specs.Numbered.{column_entries}
 use Rattle.jc_tree.specs.Blocks.{AreFit, DifferAt}

@@ -1,4 +1,4 @@
-use Rattle.std.proofs.Common.{Some, sym, ◌∙◌, ap}
+use Rattle.std.proofs.Common.{sym, ◌∙◌, ap}
 use Rattle.jc_tree.specs.Arena.{Flat}
 use Rattle.jc_tree.specs.Numbered.{column_entries}
 use Rattle.jc_tree.proofs.NumberedLemmas.{key_at}

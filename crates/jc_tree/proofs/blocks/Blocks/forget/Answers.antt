@@ -1,4 +1,4 @@
-use Rattle.std.proofs.Common.{Some, List, ℕ, sym, subst, ◌∙◌, ap}
+use Rattle.std.proofs.Common.{List, sym, subst, ◌∙◌, ap}
 use Rattle.jc_tree.specs.Blocks.{Members, AreFit, member}
 use Rattle.jc_tree.proofs.BlocksLemmas.{only_place_in, lent_block, spots_kept, fit_kept, none_behind, fewer_kept}
 use Rattle.jc_tree.proofs.blocks.Blocks.forget.Goals as goal

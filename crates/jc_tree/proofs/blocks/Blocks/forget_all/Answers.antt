@@ -1,6 +1,4 @@
-use Rattle.std.proofs.Common.{◌≡◌, ◌==◌, ◌<◌, ◌≤◌, ◌+◌, ℕ, Some, Bool, true, false, refl, sym, subst, ◌∙◌, ap, take, arith, true≢false}
-use Rattle.std.proofs.lemmas.Bool.{eqb-true, eq-eqb}
-use Rattle.jc_tree.specs.Blocks.{member, AreFit}
+use Rattle.std.proofs.Common.{take, arith}
 use Rattle.jc_tree.proofs.BlocksLemmas.{fit_fewer, gone_once_more}
 use Rattle.jc_tree.proofs.blocks.Blocks.forget_all.Goals as goal
 

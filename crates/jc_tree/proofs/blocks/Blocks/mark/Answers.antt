@@ -1,4 +1,4 @@
-use Rattle.std.proofs.Common.{Some, Option, ℕ, sym, subst, ◌∙◌, ap}
+use Rattle.std.proofs.Common.{Some, sym, subst, ◌∙◌, ap}
 use Rattle.jc_tree.specs.Blocks.{AreFit, IsNumberIn}
 use Rattle.jc_tree.proofs.BlocksLemmas.{only_place_in, no_place, lent_block, lent_number, spots_same, fit_apart, fit_marked}
 use Rattle.jc_tree.proofs.blocks.Blocks.mark.Goals as goal

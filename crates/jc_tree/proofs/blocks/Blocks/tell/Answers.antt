@@ -1,5 +1,3 @@
-use Rattle.std.proofs.Common.{◌≡◌, Some, length, slice_get, slice_index_or, sym, subst, ◌∙◌, ap, List}
-use Rattle.jc_tree.specs.Blocks.{Members, AreFit}
 use Rattle.jc_tree.proofs.BlocksLemmas.{lent_block, lent_number, told_over, told_at}
 use Rattle.jc_tree.proofs.blocks.Blocks.tell.Goals as goal
 

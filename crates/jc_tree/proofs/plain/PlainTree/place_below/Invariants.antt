@@ -1,4 +1,4 @@
-use Rattle.std.proofs.Common.{◌≡◌, ◌≢◌, ℕ, ◌≤◌, [], ◌∷◌, ◌++◌, Some}
+use Rattle.std.proofs.Common.{◌≢◌, ℕ, ◌≤◌, [], ◌∷◌, ◌++◌, Some}
 use Rattle.jc_tree.specs.Named.{path_at, child_key}
 use Rattle.jc_tree.proofs.plain.PlainTree.place_below.Given as goal
 

@@ -1,5 +1,0 @@
-use Rattle.std.proofs.Common.{◌≡◌, take}
-use Rattle.jc_effects.proofs.along.copy_path.Given as goal
-
-abbrev pub invariant-loop-tagged : goal.invariant-loop-tagged
-invariant-loop-tagged l = l.copy.items ≡ take l.tagged-index l.path
