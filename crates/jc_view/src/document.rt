@@ -173,12 +173,7 @@ fn write_name(alloc: Global, name: &str, out: &mut Writer) -> Result<(), AllocEr
 }
 
 /// The element that follows a key of a list, and where to look first for it.
-fn element_after<S: TreeStore>(
-    store: &S,
-    place: Place,
-    key: &Key,
-    hint: Hint,
-) -> Option<(Id, Hint)>
+fn element_after<S: TreeStore>(store: &S, place: Place, key: &Key, hint: Hint) -> Option<(Id, Hint)>
     requires { (at : List AnyTagged) × S.names store.now place at }
     ensures { (at : List AnyTagged) → S.names store.now place at → MatchOption result
         ((i : AnyId) → next_of key.now (here at (S.tree store.now)) ≢ Some (To i))
