@@ -1,5 +1,5 @@
 -- About Visible and Parts: the members of a map, written one after another; what is shown at a key; the line.
-use Rattle.std.proofs.Common.{◌≡◌, ◌≢◌, ℕ, zero, suc, ◌<◌, ◌≤◌, List, [], ◌∷◌, ◌++◌, Bool, true, false, cond, Option, Some, None, is_some, length, take, get_or, Bor, Contains, append_assoc, refl, sym, ◌∙◌, ap, subst, codes, arith}
+use Rattle.std.proofs.Common.{◌≡◌, ℕ, zero, suc, ◌<◌, ◌≤◌, List, [], ◌∷◌, ◌++◌, Bool, true, false, cond, Option, Some, None, is_some, length, take, get_or, Bor, Contains, append_assoc, refl, sym, ◌∙◌, ap, subst, codes, arith}
 use Rattle.std.specs.List.{AllByRecursion}
 use Rattle.json.specs.Json.{Json, Members, no_members, member, object}
 use Rattle.json.specs.Print.{print}

@@ -1,5 +1,5 @@
 -- About Places: what is shown at a cursor, and its line.
-use Rattle.std.proofs.Common.{◌≡◌, ◌≢◌, ◌↔◌, ℕ, List, [], ◌∷◌, ◌++◌, codes, Bool, true, false, cond, Option, Some, None, is_some, append_assoc, refl, sym, ◌∙◌, ap}
+use Rattle.std.proofs.Common.{◌≡◌, ℕ, List, [], ◌∷◌, ◌++◌, codes, Option, Some, None, append_assoc, refl, sym, ◌∙◌, ap}
 use Rattle.json.specs.Json.{Json}
 use Rattle.json.specs.Print.{print}
 use Rattle.json.specs.Token as T
@@ -8,15 +8,12 @@ use Rattle.jc_rules.specs.declared.key.Key.{Key}
 use Rattle.jc_rules.specs.declared.key.Key.TheVariants as K
 use Rattle.jc_rules.specs.declared.key.Tagged.{Tagged}
 use Rattle.jc_rules.specs.declared.operation.Cursor.{Cursor}
-use Rattle.jc_rules.specs.Context.{Context, context, presences}
-use Rattle.jc_rules.specs.ContextsAt.{node_at, context_at}
-use Rattle.jc_rules.specs.Entries.{find}
-use Rattle.jc_rules.specs.Order.{key_cmp}
+use Rattle.jc_rules.specs.Context.{Context, context}
+use Rattle.jc_rules.specs.ContextsAt.{node_at}
 use Rattle.jc_rules.specs.State.{State}
-use Rattle.jc_rules.proofs.ContextsAtLemmas.{there}
-use Rattle.jc_view.specs.Parts.{parts_shown_at, part_tokens, member_tokens}
+use Rattle.jc_view.specs.Parts.{member_tokens}
 use Rattle.jc_view.specs.Places.{shown_in, place_line}
-use Rattle.jc_view.specs.Visible.{GoesThrough, document, goes_by, line_json, present, view_line}
+use Rattle.jc_view.specs.Visible.{GoesThrough, document, goes_by, line_json, view_line}
 
 pub line_tokens : (name : List ℕ) (shown : Option Json) → json_tokens (line_json name shown)
     ≡ (T.begin_object ∷ []) ++ member_tokens (codes "doc") shown ++ (T.key (codes "name") ∷ []) ++ (T.string name ∷ []) ++ (T.end_object ∷ [])

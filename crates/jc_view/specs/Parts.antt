@@ -1,5 +1,5 @@
 -- The tokens that each private function of `document`, `values` and `alive` writes or tests, as parts of `Visible`.
-use Rattle.std.specs.Prelude.{◌≡◌, ℕ, List, [], ◌∷◌, ◌++◌, codes, Bool, true, false, cond, ◌&&◌, Option, Some, None, is_some}
+use Rattle.std.specs.Prelude.{ℕ, List, [], ◌∷◌, ◌++◌, codes, Bool, true, false, cond, ◌&&◌, Option, Some, None, is_some}
 use Rattle.json.specs.Json
 use Rattle.json.specs.Json.{Json, null, Items, Members}
 use Rattle.json.specs.Token.{Token}

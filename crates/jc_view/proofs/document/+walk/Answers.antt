@@ -1,19 +1,16 @@
-use Rattle.std.proofs.Common.{rules, ℕ, ◌≡◌, ◌≢◌, ◌<◌, List, [], ◌∷◌, ◌++◌, Bool, true, false, is_some, Some, codes, refl, arith, add-one, ap, sym, ◌∙◌, subst}
-use Rattle.std.specs.List.{AllByRecursion}
+use Rattle.std.proofs.Common.{rules, ℕ, ◌≡◌, ◌<◌, List, [], ◌∷◌, ◌++◌, true, false, is_some, Some, codes, refl, arith, add-one, ap, sym, ◌∙◌, subst}
 use Rattle.std.proofs.lemmas.Result.{on_ok_weaker}
-use Rattle.json.specs.Json.{object, member, no_members}
 use Rattle.json.specs.Token.{Token}
 use Rattle.json.specs.Token as T
 use Rattle.json.specs.Tree.{json_tokens}
 use Rattle.json.specs.Written.{Written}
-use Rattle.jc_rules.specs.declared.id.Id.{Id}
 use Rattle.jc_rules.specs.declared.key.Key.{Key}
 use Rattle.jc_rules.specs.declared.key.Key.TheVariants as K
 use Rattle.jc_rules.specs.declared.key.Next.TheVariants.{Elem as To}
 use Rattle.jc_rules.specs.declared.key.Tagged.{Tagged}
 use Rattle.jc_rules.specs.declared.key.Tagged.TheVariants.{MapT, ListT}
 use Rattle.jc_rules.specs.Order.{key_cmp}
-use Rattle.jc_rules.specs.Entries.{keys_of, find}
+use Rattle.jc_rules.specs.Entries.{find}
 use Rattle.jc_rules.specs.Context.{presences, registers, next, Register}
 use Rattle.jc_rules.specs.WellFormed.{IsWellFormedContext}
 use Rattle.jc_tree.specs.Tree.{HasPlace, here}
@@ -21,13 +18,12 @@ use Rattle.jc_tree.specs.Nested.{nested}
 use Rattle.jc_tree.proofs.ChainedBelowLemmas.{list_here}
 use Rattle.jc_cursor.proofs.ElementsLemmas.{nearer}
 use Rattle.jc_tree.proofs.WellFormedLemmas.{presences_rise}
-use Rattle.jc_meaning.proofs.ComparedContextsLemmas.{StandsBelow, stands_below, kept_here}
+use Rattle.jc_meaning.proofs.ComparedContextsLemmas.{kept_here}
 use Rattle.jc_view.specs.declared.document.Branch.{Branch}
-use Rattle.jc_view.specs.declared.document.Branch.TheVariants as B
 use Rattle.jc_view.specs.declared.document.Form.TheVariants as F
-use Rattle.jc_view.specs.Visible.{goes_by, or_no_value, present, marked, map_json, list_json, parts_json}
+use Rattle.jc_view.specs.Visible.{goes_by, or_no_value, present, marked, map_json, list_json}
 use Rattle.jc_json.specs.Gains.{Gains}
-use Rattle.jc_view.specs.Parts.{parts_shown_at, node_json, child_json, member_shown, item_of, shows_at, form_of, first_tokens, part_tokens, values_tokens, if_so, tag_of}
+use Rattle.jc_view.specs.Parts.{parts_shown_at, node_json, child_json, member_shown, item_of, shows_at, part_tokens, values_tokens, tag_of}
 use Rattle.jc_json.proofs.GainsLemmas.{gains_nothing, gains_one, gains_then, wrote_end, gains_between}
 use Rattle.jc_view.proofs.ElementsLemmas.{along_begins, along_on, along_ends}
 use Rattle.jc_view.proofs.MembersLemmas.{one_member_more, all_members, member_by, every_is, place_by, map_is, list_is, child_stands, child_is}

@@ -1,4 +1,4 @@
-use Rattle.std.proofs.Common.{rules, ◌≡◌, ◌&&◌, true, false, not, is_some, refl, sym, ◌∙◌, ap, Some, None}
+use Rattle.std.proofs.Common.{rules, ◌≡◌, ◌&&◌, true, not, is_some, sym, ◌∙◌, ap, Some, None}
 use Rattle.jc_rules.specs.declared.key.Tagged.{Tagged}
 use Rattle.jc_rules.specs.Context.{content, presences}
 use Rattle.jc_rules.specs.WellFormed.{IsWellFormedContext}
