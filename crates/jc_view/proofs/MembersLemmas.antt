@@ -95,17 +95,6 @@ member_by show s c b e h = go (find key_cmp (K.Name s) (presences c)) refl
         let n : b ≡ true = e ∙ present_by (K.Name s) (presences c) (Some (i ∷ is)) h (sym f) in
         rw (f, n) (ap (λ x. T.key (marked s) ∷ x) (append-nil (json_tokens (show (K.Name s)))))
 
-pub no_member : (show : Key → Json) (k : Key) (c : Context) → ((s : List ℕ) → k ≢ K.Name s) → member_shown show k c ≡ []
-no_member show k c h = go k h (find key_cmp k (presences c))
-  where
-    go : (j : Key) → ((s : List ℕ) → j ≢ K.Name s) → (o : Option (List Id)) → members_front show (present (entry_of j o)) ≡ []
-    go j g None = refl
-    go j g (Some []) = refl
-    go K.Doc g (Some (i ∷ is)) = refl
-    go K.Head g (Some (i ∷ is)) = refl
-    go (K.Name s) g (Some (i ∷ is)) = absurd (g s refl)
-    go (K.Elem d) g (Some (i ∷ is)) = refl
-
 -- ---- one place
 
 part_front : (k : List ℕ) (b : Bool) (j : Json) (ms : Members) → members_tokens (with_part k (if_so b j) ms) ≡ part_tokens k b j ++ members_tokens ms

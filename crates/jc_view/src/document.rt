@@ -36,7 +36,7 @@ pub(crate) struct View<'a, S: TreeStore> {
     pub store: &'a S,
 }
 
-/// The kinds of what has keys of its own under a key.
+/// The kinds of what stands under a key and has keys of its own.
 #[derive(Clone, Copy)]
 enum Branch {
     Map,

@@ -34,11 +34,6 @@ use Rattle.jc_view.proofs.MembersLemmas.{one_member_more, all_members, member_by
 use Rattle.jc_view.proofs.document.+walk.Goals as goal
 use Rattle.jc_view.proofs.document.+walk.Goals.{write_child-in-Map+in_ok-write_map-in-Map, write_child-in-List+in_ok-write_list-in-List}
 
-pub write_child-unreachable-requires : goal.write_child-unreachable-requires
-write_child-unreachable-requires g t c =
-    let no : false ≡ true = c.in_default.ensures.some c.args.at.now.items c.requires.named ∙ c.requires.some in
-    cc
-
 pub write_child-write_list-requires : goal.write_child-write_list-requires
 write_child-write_list-requires g t c κs within =
     let tree = g.S.TreeStore.tree c.args.view.now.store.now in
@@ -116,7 +111,7 @@ write_list-loop-id-init g t c =
     let at = c.args.at.now.items in
     let d = here at tree in
     let show = parts_shown_at c.args.view.now.names.now (goes_by c.args.view.now.replica.now.history.now) at d in
-    (refl, along_begins show d _ _ refl)
+    (refl, along_begins show d _)
 
 pub write_list-loop-id-smaller : goal.write_list-loop-id-smaller
 write_list-loop-id-smaller g t c =
@@ -141,7 +136,7 @@ write_list-loop-id-preserved g t c =
     let gains : Gains c.loop-id.out c.write_item.new.out (item_of show (K.Elem id) d) =
     subst (λ (s : List Tagged). Gains c.loop-id.out c.write_item.new.out (item_of (parts_shown_at c.args.view.now.names.now (goes_by c.args.view.now.replica.now.history.now) s (here s tree)) (K.Elem id) (here s tree))) c.loop-id.invariant.0 c.in_ok-write_item.ensures.written in (
       c.in_ok-write_item.ensures.path ∙ c.loop-id.invariant.0,
-      along_on show d k (K.Elem id) id _ _ _ (λ f. list_here at k (To id) tree there f c.requires.chained) n refl gains c.loop-id.invariant.1,
+      along_on show d k id _ _ _ (λ f. list_here at k (To id) tree there f c.requires.chained) n gains c.loop-id.invariant.1,
     )
 
 pub write_list-returns-clause-written : goal.write_list-returns-clause-written
@@ -156,9 +151,6 @@ write_list-returns-clause-written g t c =
     on_ok_weaker c.end_array.result
     (λ o. gains_between c.args.out.now c.begin_array.new.self c.loop-id.out c.end_array.new.self T.begin_array T.end_array _ _ (list_is names goes at d) begun written (record { before = c.end_array.ensures.room.0; tokens = o }))
     c.end_array.ensures.ok
-
-pub write_map-loop-key-init : goal.write_map-loop-key-init
-write_map-loop-key-init g t c = (refl, gains_nothing _)
 
 pub write_map-loop-key-preserved : goal.write_map-loop-key-preserved
 write_map-loop-key-preserved g t c =

@@ -10,12 +10,6 @@ use Rattle.jc_view.specs.Visible.{goes_by, some_goes, is_alive, present}
 use Rattle.jc_view.proofs.PresentLemmas.{alive_by}
 use Rattle.jc_view.proofs.document.is_shown.Goals as goal
 
-pub returns-then-is_none : goal.returns-then-is_none
-returns-then-is_none g c =
-    let d = here c.args.at.now (g.S.TreeStore.tree c.args.view.now.store.now) in
-    let absent : is_some (content (tag_of c.args.branch c.args.key.key.now) d) ≡ false = sym (c.child_at.ensures.some c.args.at.now c.requires) ∙ c.is_none.ensures ∙ ap not c.if-is_none.true in
-    rw absent refl
-
 pub returns : goal.returns
 returns g c =
     let store = c.args.view.now.store.now in
