@@ -6,9 +6,6 @@ use Rattle.jc_effects.specs.Parts.{AreContexts, differences_of}
 use Rattle.jc_effects.proofs.PartsAlongLemmas.{below_longer, split_at, longer_at}
 use Rattle.jc_effects.proofs.along.+places_along.Goals as goal
 
-pub contexts_below-requires : goal.contexts_below-requires
-contexts_below-requires g t c = (take c.args.depth c.args.change.now.op.now.cursor.path, c.requires.contexts)
-
 pub places_along-requires : goal.places_along-requires
 places_along-requires g t c κs h =
     let old = c.args.change.now.old.now in
@@ -20,9 +17,6 @@ places_along-requires g t c κs h =
     let is = c.index-path-depth.is ∙ ap (λ (ps : List Tagged). get_or ps n key) c.as_slice-path.ensures.keys in
     let contexts = subst (λ (p : List Tagged). AreContexts (g.S.TreeStore.names old) (g.S.TreeStore.names new) (g.S.TreeStore.tree old) (g.S.TreeStore.tree new) p c.contexts_below-inside.result) (sym (longer_at path n key within is)) (c.contexts_below-inside.ensures (take n path) c.requires.contexts) in
     (omega (arith, within), (h, (c.requires.changed, (contexts, omega (arith, within)))))
-
-pub place_on_path-requires-clause-contexts : goal.place_on_path-requires-clause-contexts
-place_on_path-requires-clause-contexts g t c = (take c.args.depth c.args.change.now.op.now.cursor.path, c.requires.contexts)
 
 pub returns : goal.returns
 returns g t c =

@@ -2,9 +2,6 @@ use Rattle.std.proofs.Common.{sym, ◌∙◌}
 use Rattle.jc_effects.proofs.PartsTargetLemmas.{none_inside, loses_inside}
 use Rattle.jc_effects.proofs.along.child_cleared.Goals as goal
 
-pub child_below-requires : goal.child_below-requires
-child_below-requires g c = (c.args.change.now.op.now.cursor.path, c.requires.contexts)
-
 pub returns-then-is_clearing : goal.returns-then-is_clearing
 returns-then-is_clearing g c =
     let o = c.args.change.now.op.now in

@@ -4,15 +4,6 @@ use Rattle.jc_meaning.specs.Seen.{seen, ids_at}
 use Rattle.jc_effects.proofs.PartsOwnLemmas.{path_own}
 use Rattle.jc_effects.proofs.along.own_on_path.Goals as goal
 
-pub ids_in-was-requires : goal.ids_in-was-requires
-ids_in-was-requires g c = (c.requires.contexts.0, c.requires.contexts.1.old)
-
-pub ids_in-now-requires : goal.ids_in-now-requires
-ids_in-now-requires g c = (c.requires.contexts.0, c.requires.contexts.1.new)
-
-pub has_tag_in-requires : goal.has_tag_in-requires
-has_tag_in-requires g c = (c.requires.contexts.0, c.requires.contexts.1.old)
-
 pub returns : goal.returns
 returns g c at rest contexts path =
     let o = c.args.change.now.op.now in

@@ -5,8 +5,8 @@ use Rattle.jc_effects.proofs.PartsAlongLemmas.{target_all}
 use Rattle.jc_effects.proofs.PartsTargetLemmas.{other_target}
 use Rattle.jc_effects.proofs.along.places_at_target.Goals as goal
 
-pub returns : goal.returns
-returns g c =
+pub returns-else-is_insert : goal.returns-else-is_insert
+returns-else-is_insert g c =
     let o = c.args.change.now.op.now in
     let old = (g.S.TreeStore.tree c.args.change.now.old.now).now in
     let new = (g.S.TreeStore.tree c.args.change.now.new.now).now in

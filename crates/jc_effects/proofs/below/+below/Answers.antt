@@ -47,12 +47,6 @@ child_below-returns g t c at contexts losses =
     (λ effects e. below_longer at tagged old new (differences_of effects) e)
     (c.places_below.ensures (at ++ tagged ∷ []) (c.contexts_below-inside.ensures at contexts) (longer_below at tagged old new losses))
 
-pub place_below-child_below-requires : goal.place_below-child_below-requires
-place_below-child_below-requires g t c κs within = (omega (arith, c.decreases), (within, c.requires))
-
-pub place_below-child_below-requires-2 : goal.place_below-child_below-requires-2
-place_below-child_below-requires-2 g t c κs within = (omega (arith, c.decreases), (within, c.requires))
-
 -- nothing goes there
 pub place_below-returns-then-is_empty : goal.place_below-returns-then-is_empty
 place_below-returns-then-is_empty g t c at contexts losses =
@@ -77,17 +71,8 @@ place_below-returns g t c at contexts losses =
     (λ e f ks later among. lost_place k old new c.in_ok-own.own (differences_of c.in_ok-map.map) (differences_of c.in_ok-list.list) (differences_of c.args.rest) (differences_of e) losses own maps lists f ks later among)
     c.with_place.ensures
 
-pub places_below-keys_at-requires : goal.places_below-keys_at-requires
-places_below-keys_at-requires g t c = (c.requires.contexts.0, subst (IsNameOf (g.S.TreeStore.names c.args.change.now.old.now) (g.S.TreeStore.tree c.args.change.now.old.now) c.requires.contexts.0) c.requires.named c.requires.contexts.1.old)
-
 pub places_below-loop-lent-init : goal.places_below-loop-lent-init
 places_below-loop-lent-init g t c at contexts losses = passed_none _ _ _
-
-pub places_below-ids_in-requires : goal.places_below-ids_in-requires
-places_below-ids_in-requires g t c = (c.requires.contexts.0, c.requires.contexts.1.old)
-
-pub places_below-place_below-requires : goal.places_below-place_below-requires
-places_below-place_below-requires g t c κs within = (omega (arith, c.decreases), (within, c.requires.contexts))
 
 -- nothing was at the key
 pub places_below-loop-lent-preserved-then-is_empty : goal.places_below-loop-lent-preserved-then-is_empty

@@ -3,18 +3,6 @@ use Rattle.jc_meaning.specs.Seen.{seen}
 use Rattle.jc_effects.proofs.PartsOwnLemmas.{lost_own}
 use Rattle.jc_effects.proofs.below.own_lost.Goals as goal
 
-pub ids_in-was-requires : goal.ids_in-was-requires
-ids_in-was-requires g c = (c.requires.0, c.requires.1.old)
-
-pub ids_in-now-requires : goal.ids_in-now-requires
-ids_in-now-requires g c = (c.requires.0, c.requires.1.new)
-
-pub pairs_in-had-requires : goal.pairs_in-had-requires
-pairs_in-had-requires g c = (c.requires.0, c.requires.1.old)
-
-pub pairs_in-has-requires : goal.pairs_in-has-requires
-pairs_in-has-requires g c = (c.requires.0, c.requires.1.new)
-
 pub returns : goal.returns
 returns g c at contexts losses =
     let old = seen at (g.S.TreeStore.tree c.args.change.now.old.now).now in

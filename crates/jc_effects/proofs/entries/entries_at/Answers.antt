@@ -1,14 +1,5 @@
 use Rattle.jc_effects.proofs.entries.entries_at.Goals as goal
 
-pub ids_in-requires : goal.ids_in-requires
-ids_in-requires g c = (c.args.at.now, c.requires)
-
-pub tags_in-requires : goal.tags_in-requires
-tags_in-requires g c = (c.args.at.now, c.requires)
-
-pub pairs_in-requires : goal.pairs_in-requires
-pairs_in-requires g c = (c.args.at.now, c.requires)
-
 pub returns : goal.returns
 returns g c =
     let at = c.args.at.now in

@@ -13,15 +13,6 @@ returns-in_default g c at named =
     let none = subst (IsNameOf (g.S.TreeStore.names store) tree at) c.in_default.is named in
     sym ((is_new at tree.now none).tags c.args.tagged.now)
 
-pub map_by-requires : goal.map_by-requires
-map_by-requires g c = (c.requires.0, subst (IsNameOf (g.S.TreeStore.names c.args.store.now) (g.S.TreeStore.tree c.args.store.now) c.requires.0) c.in-Some.is c.requires.1)
-
-pub list_by-requires : goal.list_by-requires
-list_by-requires g c = (c.requires.0, subst (IsNameOf (g.S.TreeStore.names c.args.store.now) (g.S.TreeStore.tree c.args.store.now) c.requires.0) c.in-Some.is c.requires.1)
-
-pub register_by-requires : goal.register_by-requires
-register_by-requires g c = (c.requires.0, subst (IsNameOf (g.S.TreeStore.names c.args.store.now) (g.S.TreeStore.tree c.args.store.now) c.requires.0) c.in-Some.is c.requires.1)
-
 pub returns-in-MapT : goal.returns-in-MapT
 returns-in-MapT g c at named =
     let store = c.args.store.now in

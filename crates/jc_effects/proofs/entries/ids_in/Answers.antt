@@ -10,9 +10,6 @@ returns-in_default-clause-ids g c at named =
     let none = subst (IsNameOf (g.S.TreeStore.names store) tree at) c.in_default.is named in
     sym ((is_new at tree.now none).ids c.args.key.now)
 
-pub presence_by-requires : goal.presence_by-requires
-presence_by-requires g c = (c.requires.0, subst (IsNameOf (g.S.TreeStore.names c.args.store.now) (g.S.TreeStore.tree c.args.store.now) c.requires.0) c.in-Some.is c.requires.1)
-
 pub returns-in-Some-presence_by-clause-ids : goal.returns-in-Some-presence_by-clause-ids
 returns-in-Some-presence_by-clause-ids g c at named =
     let store = c.args.store.now in

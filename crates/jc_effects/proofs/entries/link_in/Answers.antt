@@ -5,9 +5,6 @@ use Rattle.jc_effects.specs.Parts.{IsNameOf}
 use Rattle.jc_effects.proofs.PartsReadLemmas.{seen_here, seen_none}
 use Rattle.jc_effects.proofs.entries.link_in.Goals as goal
 
-pub step_by-requires : goal.step_by-requires
-step_by-requires g c = (c.args.at.now, subst (IsNameOf (g.S.TreeStore.names c.args.store.now) (g.S.TreeStore.tree c.args.store.now) c.args.at.now) c.in-Some.is c.requires)
-
 pub returns-in-Some : goal.returns-in-Some
 returns-in-Some g c =
     let store = c.args.store.now in

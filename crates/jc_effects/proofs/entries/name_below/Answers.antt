@@ -3,9 +3,6 @@ use Rattle.jc_effects.specs.Parts.{IsNameOf}
 use Rattle.jc_effects.proofs.PartsReadLemmas.{named_below, unnamed_below}
 use Rattle.jc_effects.proofs.entries.name_below.Goals as goal
 
-pub below-requires : goal.below-requires
-below-requires g c = (c.requires.0, subst (IsNameOf (g.S.TreeStore.names c.args.store.now) (g.S.TreeStore.tree c.args.store.now) c.requires.0) c.in-Some.is c.requires.1)
-
 pub returns-in-Some : goal.returns-in-Some
 returns-in-Some g c at named =
     let store = c.args.store.now in

@@ -11,9 +11,6 @@ returns-in_default-clause-pairs g c at named =
     let none = subst (IsNameOf (g.S.TreeStore.names store) tree at) c.in_default.is named in
     sym (ap or_no_entries ((is_new at tree.now none).register c.args.key.now))
 
-pub register_by-requires : goal.register_by-requires
-register_by-requires g c = (c.requires.0, subst (IsNameOf (g.S.TreeStore.names c.args.store.now) (g.S.TreeStore.tree c.args.store.now) c.requires.0) c.in-Some.is c.requires.1)
-
 pub returns-in-Some-register_by-clause-pairs : goal.returns-in-Some-register_by-clause-pairs
 returns-in-Some-register_by-clause-pairs g c at named =
     let store = c.args.store.now in

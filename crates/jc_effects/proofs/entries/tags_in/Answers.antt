@@ -4,15 +4,6 @@ use Rattle.jc_effects.specs.Parts.{IsNameOf}
 use Rattle.jc_effects.proofs.PartsReadLemmas.{is_new, tag_read, register_read, copied_some}
 use Rattle.jc_effects.proofs.entries.tags_in.Goals as goal
 
-pub map_by-requires : goal.map_by-requires
-map_by-requires g c = (c.requires.0, subst (IsNameOf (g.S.TreeStore.names c.args.store.now) (g.S.TreeStore.tree c.args.store.now) c.requires.0) c.in-Some.is c.requires.1)
-
-pub list_by-requires : goal.list_by-requires
-list_by-requires g c = (c.requires.0, subst (IsNameOf (g.S.TreeStore.names c.args.store.now) (g.S.TreeStore.tree c.args.store.now) c.requires.0) c.in-Some.is c.requires.1)
-
-pub register_by-requires : goal.register_by-requires
-register_by-requires g c = (c.requires.0, subst (IsNameOf (g.S.TreeStore.names c.args.store.now) (g.S.TreeStore.tree c.args.store.now) c.requires.0) c.in-Some.is c.requires.1)
-
 pub returns-in-Some-clause-map : goal.returns-in-Some-clause-map
 returns-in-Some-clause-map g c at named =
     let store = c.args.store.now in
