@@ -143,11 +143,14 @@ by_form names (e ∷ d ∷ r) false true child = refl
 by_form names (e ∷ d ∷ r) true true child = refl
 
 -- what is shown at a key, by the form that was chosen for its values and for whether its map and its list are shown
-pub place_by : (names : List (List ℕ)) (goes : GoesThrough) (at : List Tagged) (k : Key) (c : Context) (r : Register) (map list : Bool) (form : Form)
-    → r ≡ or_no_value (find key_cmp k (registers c)) → map ≡ shows_at goes at (MapT k) c → list ≡ shows_at goes at (ListT k) c → form ≡ form_of r map list
-    → json_tokens (parts_shown_at names goes at c k) ≡ form_tokens names r map list (λ b. child_json names goes at (tag_of b k) c) form
-place_by names goes at k c r map list form er em el ef =
-    rw (ef, er, em, el) (ap json_tokens (place_is names goes at k c) ∙ by_form names (or_no_value (find key_cmp k (registers c))) (shows_at goes at (MapT k) c) (shows_at goes at (ListT k) c) (λ b. child_json names goes at (tag_of b k) c))
+pub place_by : (names : List (List ℕ)) (goes : GoesThrough) (at p : List Tagged) (k : Key) (a : Tree) (r : Register) (map list : Bool) (form : Form)
+    → p ≡ at → r ≡ or_no_value (find key_cmp k (registers (here at a))) → map ≡ shows_at goes p (MapT k) (here p a) → list ≡ shows_at goes p (ListT k) (here p a) → form ≡ form_of r map list
+    → json_tokens (parts_shown_at names goes at (here at a) k) ≡ form_tokens names r map list (λ b. child_json names goes at (tag_of b k) (here at a)) form
+place_by names goes at p k a r map list form ep er em el ef =
+    let c = here at a in
+    let m : map ≡ shows_at goes at (MapT k) c = em ∙ ap (λ (s : List Tagged). shows_at goes s (MapT k) (here s a)) ep in
+    let l : list ≡ shows_at goes at (ListT k) c = el ∙ ap (λ (s : List Tagged). shows_at goes s (ListT k) (here s a)) ep in
+    rw (ef, er, m, l) (ap json_tokens (place_is names goes at k c) ∙ by_form names (or_no_value (find key_cmp k (registers c))) (shows_at goes at (MapT k) c) (shows_at goes at (ListT k) c) (λ b. child_json names goes at (tag_of b k) c))
 
 -- ---- whole maps and lists
 

@@ -23,7 +23,7 @@ use Rattle.jc_view.specs.declared.document.Branch.{Branch}
 use Rattle.jc_view.specs.declared.document.Form.TheVariants as F
 use Rattle.jc_view.specs.Visible.{goes_by, or_no_value, present, marked, map_json, list_json}
 use Rattle.jc_json.specs.Gains.{Gains}
-use Rattle.jc_view.specs.Parts.{parts_shown_at, node_json, child_json, member_shown, item_of, shows_at, part_tokens, values_tokens, tag_of}
+use Rattle.jc_view.specs.Parts.{parts_shown_at, node_json, child_json, member_shown, item_of, part_tokens, values_tokens, tag_of}
 use Rattle.jc_json.proofs.GainsLemmas.{gains_nothing, gains_one, gains_then, wrote_end, gains_between}
 use Rattle.jc_view.proofs.ElementsLemmas.{along_begins, along_on, along_ends}
 use Rattle.jc_view.proofs.MembersLemmas.{one_member_more, all_members, member_by, every_is, place_by, map_is, list_is, child_stands, child_is}
@@ -214,41 +214,23 @@ write_member-returns-else-is_present-clause-written g t c =
 pub write_place-returns-in-Value-clause-written : goal.write_place-returns-in-Value-clause-written
 write_place-returns-in-Value-clause-written g t c =
     let tree = g.S.TreeStore.tree c.args.view.now.store.now in
-    let at = c.args.at.now.items in
-    let names = c.args.view.now.names.now in
     let goes = goes_by c.args.view.now.replica.now.history.now in
-    let d = here at tree in
-    let k = c.args.key.key.now in
-    let m : c.in_ok-map.map ≡ shows_at goes at (MapT k) d = c.in_ok-map.ensures.map ∙ ap (λ (s : List Tagged). shows_at goes s (MapT k) (here s tree)) c.as_slice.ensures.value in
-    let l : c.in_ok-map.list ≡ shows_at goes at (ListT k) d = c.in_ok-map.ensures.list ∙ ap (λ (s : List Tagged). shows_at goes s (ListT k) (here s tree)) c.as_slice.ensures.value in
-    let values = c.values_at-values.ensures at c.requires.named in
-    let shown = place_by names goes at k d c.values_at-values.result.now c.in_ok-map.map c.in_ok-map.list F.Value values m l (sym c.in-Value.is ∙ c.choose_form.ensures) in
+    let values = c.values_at-values.ensures c.args.at.now.items c.requires.named in
+    let shown = place_by c.args.view.now.names.now goes c.args.at.now.items _ c.args.key.key.now tree _ _ _ F.Value c.as_slice.ensures.value values c.in_ok-map.ensures.map c.in_ok-map.ensures.list (sym c.in-Value.is ∙ c.choose_form.ensures) in
     on_ok_weaker c.write_first.result (λ w. subst (Gains c.args.out.now c.write_first.new.out) (sym shown) w) c.write_first.ensures
 
 pub write_place-returns-in-Child-clause-written : goal.write_place-returns-in-Child-clause-written
 write_place-returns-in-Child-clause-written g t c =
     let tree = g.S.TreeStore.tree c.args.view.now.store.now in
-    let at = c.args.at.now.items in
-    let names = c.args.view.now.names.now in
     let goes = goes_by c.args.view.now.replica.now.history.now in
-    let d = here at tree in
-    let k = c.args.key.key.now in
-    let m : c.in_ok-map.map ≡ shows_at goes at (MapT k) d = c.in_ok-map.ensures.map ∙ ap (λ (s : List Tagged). shows_at goes s (MapT k) (here s tree)) c.as_slice.ensures.value in
-    let l : c.in_ok-map.list ≡ shows_at goes at (ListT k) d = c.in_ok-map.ensures.list ∙ ap (λ (s : List Tagged). shows_at goes s (ListT k) (here s tree)) c.as_slice.ensures.value in
-    let values = c.values_at-values.ensures at c.requires.named in
-    let shown = place_by names goes at k d c.values_at-values.result.now c.in_ok-map.map c.in_ok-map.list (F.Child c.in-Child.branch) values m l (sym c.in-Child.is ∙ c.choose_form.ensures) in
+    let values = c.values_at-values.ensures c.args.at.now.items c.requires.named in
+    let shown = place_by c.args.view.now.names.now goes c.args.at.now.items _ c.args.key.key.now tree _ _ _ (F.Child c.in-Child.branch) c.as_slice.ensures.value values c.in_ok-map.ensures.map c.in_ok-map.ensures.list (sym c.in-Child.is ∙ c.choose_form.ensures) in
     on_ok_weaker c.write_child.result (λ w. subst (Gains c.args.out.now c.write_child.new.out) (sym shown) w) c.write_child.ensures.written
 
 pub write_place-returns-in-Every-clause-written : goal.write_place-returns-in-Every-clause-written
 write_place-returns-in-Every-clause-written g t c =
     let tree = g.S.TreeStore.tree c.args.view.now.store.now in
-    let at = c.args.at.now.items in
-    let names = c.args.view.now.names.now in
     let goes = goes_by c.args.view.now.replica.now.history.now in
-    let d = here at tree in
-    let k = c.args.key.key.now in
-    let m : c.in_ok-map.map ≡ shows_at goes at (MapT k) d = c.in_ok-map.ensures.map ∙ ap (λ (s : List Tagged). shows_at goes s (MapT k) (here s tree)) c.as_slice.ensures.value in
-    let l : c.in_ok-map.list ≡ shows_at goes at (ListT k) d = c.in_ok-map.ensures.list ∙ ap (λ (s : List Tagged). shows_at goes s (ListT k) (here s tree)) c.as_slice.ensures.value in
-    let values = c.values_at-values.ensures at c.requires.named in
-    let shown = place_by names goes at k d c.values_at-values.result.now c.in_ok-map.map c.in_ok-map.list F.Every values m l (sym c.in-Every.is ∙ c.choose_form.ensures) in
+    let values = c.values_at-values.ensures c.args.at.now.items c.requires.named in
+    let shown = place_by c.args.view.now.names.now goes c.args.at.now.items _ c.args.key.key.now tree _ _ _ F.Every c.as_slice.ensures.value values c.in_ok-map.ensures.map c.in_ok-map.ensures.list (sym c.in-Every.is ∙ c.choose_form.ensures) in
     on_ok_weaker c.write_every.result (λ w. subst (Gains c.args.out.now c.write_every.new.out) (sym (rw values at shown)) w) c.write_every.ensures.written
