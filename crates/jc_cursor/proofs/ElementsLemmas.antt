@@ -1,5 +1,6 @@
 -- About WayDown and Evaluates: along a list to an element by its index.
 use Rattle.std.proofs.Common.{◌≡◌, ◌≢◌, ℕ, suc, zero, ◌-◌, ◌+◌, ◌/◌, ◌%◌, ◌<◌, ◌≤◌, List, [], ◌∷◌, length, Option, Some, None, IfSome, Bool, true, false, cond, refl, sym, ◌∙◌, ap, subst, arith}
+use Rattle.std.specs.Int.{from_bool}
 use Rattle.jc_rules.specs.declared.id.Id.{Id}
 use Rattle.jc_rules.specs.declared.key.Key.{Key}
 use Rattle.jc_rules.specs.declared.key.Key.TheVariants.{Head, Elem}
@@ -147,29 +148,12 @@ not_below : (i : Id) → IsAtMost i i
 not_below i e = let no : Equal ≡ Greater = sym (equal_itself i) ∙ e in cc
 
 -- over one element
-pub one_present : (c : Context) (k j : Key) (i : Id) (m l : ℕ) (t u : Rows) → 0 < m → l ≡ m - 1 → next k c ≡ Some (To i) → j ≡ Elem i → true ≡ has_ids (or_no_entries (presence j c)) → u ≡ one_deeper (pushed t R.Idx3) → GoesOn c k m j l t u
-one_present c k j i m l t u some le e je p ue = record {
-  count = 1;
-  bits = 1;
-  least = i;
-  some = omega arith;
-  most = omega (arith, some);
-  leads = (i, e, sym (ap (λ b. cond b 1 0) (ap (λ k. has_ids (or_no_entries (presence k c))) (sym je) ∙ sym p)), not_below i, sym je);
-  counted = omega (arith, some, le);
-  rows = ue;
-}
+bit_is : (present : Bool) → from_bool present % 2 ≡ cond present 1 0
+bit_is true = refl
+bit_is false = refl
 
-pub one_absent : (c : Context) (k j : Key) (i : Id) (m l : ℕ) (t u : Rows) → 0 < m → l ≡ m → next k c ≡ Some (To i) → j ≡ Elem i → false ≡ has_ids (or_no_entries (presence j c)) → u ≡ one_deeper (pushed t R.Idx4) → GoesOn c k m j l t u
-one_absent c k j i m l t u some le e je p ue = record {
-  count = 1;
-  bits = 0;
-  least = i;
-  some = omega arith;
-  most = omega (arith, some);
-  leads = (i, e, sym (ap (λ b. cond b 1 0) (ap (λ k. has_ids (or_no_entries (presence k c))) (sym je) ∙ sym p)), not_below i, sym je);
-  counted = omega (arith, le);
-  rows = ue;
-}
+pub one_over : (c : Context) (k : Key) (i : Id) (bits : ℕ) (present : Bool) → next k c ≡ Some (To i) → bits ≡ from_bool present → present ≡ has_ids (or_no_entries (presence (Elem i) c)) → LeadsOver c k 1 bits i (Elem i)
+one_over c k i bits present e b p = (i, e, ap (λ n. n % 2) b ∙ bit_is present ∙ ap (λ x. cond x 1 0) p, not_below i, refl)
 
 pub rule_of_zero : (b : ℕ) → b ≡ 0 → R.Idx4 ≡ rule_of_bit b
 rule_of_zero b h = sym (ap rule_of_bit h)

@@ -1,9 +1,9 @@
 //! The walk along a list to an element by its index: over as many elements at once as the store tells of, else over
 //! one. The trace is left at the depth of the last rule's premises.
 
-ghost use Rattle.std.specs.Prelude.{◌≡◌, ◌≢◌, ◌<◌, ◌≤◌, ◌*◌, ◌/◌, ◌%◌, ◌^◌, ℕ, None, Some, [], List, IfOk, IfErr, IfSome, OnOk};
+ghost use Rattle.std.specs.Prelude.{◌≡◌, ◌≢◌, ◌<◌, ◌≤◌, ◌*◌, ◌/◌, ◌%◌, ◌^◌, ℕ, Some, [], List, IfOk, IfErr, IfSome, IfNone, OnOk};
 ghost use Rattle.std.specs.Int.{bit_at};
-ghost use Rattle.jc_rules.specs.declared.key.Key.TheVariants.{Head};
+ghost use Rattle.jc_rules.specs.declared.key.Key.TheVariants.{Head, Elem};
 ghost use Rattle.jc_rules.specs.declared.id.Id.{Id as AnyId};
 ghost use Rattle.jc_rules.specs.declared.key.Next.TheVariants.{Elem as To};
 ghost use Rattle.jc_rules.specs.declared.key.Tagged.{Tagged as AnyTagged};
@@ -16,13 +16,14 @@ ghost use Rattle.jc_rules.specs.WellFormed.{IsChained};
 ghost use Rattle.jc_rules.specs.Table.{cursor};
 ghost use Rattle.jc_rules.specs.Trace.{at_depth};
 ghost use Rattle.jc_tree.specs.Tree.{here};
+ghost use Rattle.jc_tree.specs.Stretches.{LeadsOver};
 ghost use Rattle.jc_cursor.specs.Along.{GoesOn, count_bits, gone_over, rule_of_bit};
 ghost use Rattle.jc_cursor.specs.WayDown.{IsGrown};
 ghost use Rattle.jc_cursor.specs.Evaluates.{eval_cause_of};
 
 use crate::evaluating::EvalFault;
 use jc_rules::{Id, Key, Next, Rule, Trace};
-use jc_tree::{ANYWHERE, Hint, Place, TreeStore};
+use jc_tree::{ANYWHERE, Hint, Place, Stretch, TreeStore};
 use std::alloc::AllocError;
 
 /// How far a walk has come: the key, where to look first for it, and how many present elements are left to
@@ -36,8 +37,8 @@ struct Walk {
 
 /// The element that follows, if one does.
 fn element_of(next: Option<Next>) -> Option<Id>
-    ensures some { (i : AnyId) → result ≡ Some i → next ≡ Some (To i) }
-    ensures none { result ≡ None → (i : AnyId) → next ≢ Some (To i) }
+    ensures some { IfSome result (λ i. next ≡ Some (To i)) }
+    ensures none { IfNone result ((i : AnyId) → next ≢ Some (To i)) }
 {
     match next {
         Some(Next::Elem(id)) => Some(id),
@@ -102,38 +103,31 @@ fn go_over(count: usize, bits: u64, trace: &mut Trace) -> Result<usize, AllocErr
     Ok(present)
 }
 
-/// Goes over the next element of the list at the place.
-fn go_over_one<S: TreeStore>(
-    store: &S,
-    place: Place,
-    walk: &Walk,
-    trace: &mut Trace,
-) -> Result<Walk, EvalFault>
+/// What lies behind the walk's key in the list at the place, as far as the store tells it at once, else the next element
+/// alone.
+fn stretch_behind<S: TreeStore>(store: &S, place: Place, walk: &Walk) -> Option<Stretch>
     requires named { (at : List AnyTagged) × S.names store.now place at }
-    requires some { 0 < walk.now.left }
-    ensures ok { (at : List AnyTagged) → S.names store.now place at → IfOk result (λ w.
-        GoesOn (here at (S.tree store.now)) walk.now.key walk.now.left w.key w.left trace.old trace.new) }
-    ensures refused { (at : List AnyTagged) → S.names store.now place at
-        → IfErr result (λ f. IfSome (eval_cause_of f) (λ why.
-        (why ≡ because F.PastEnd)
-        × ((i : AnyId) → next_of walk.now.key (here at (S.tree store.now)) ≢ Some (To i)))) }
-    ensures grown { IsGrown trace.old trace.new }
+    requires left { 0 < walk.now.left }
+    ensures over { (at : List AnyTagged) → S.names store.now place at → IfSome result (λ s.
+        LeadsOver (here at (S.tree store.now)) walk.now.key s.count s.bits s.least (Elem s.last)) }
+    ensures some { IfSome result (λ s. 0 < s.count) }
+    ensures most { IfSome result (λ s. s.count ≤ walk.now.left) }
+    ensures none { (at : List AnyTagged) → S.names store.now place at
+        → IfNone result ((i : AnyId) → next_of walk.now.key (here at (S.tree store.now)) ≢ Some (To i)) }
 {
-    let step = store.step_by(place, &walk.key, walk.hint);
-    let Some(id) = element_of(step.next) else {
-        return Err(EvalFault::PastEnd);
-    };
-    let key = Key::Elem(id);
-    let hint = step.hint;
-    let ahead = store.step_by(place, &key, hint);
-    if ahead.present {
-        trace.open(Rule::Idx3)?;
-        let left = walk.left - 1;
-        return Ok(Walk { key, hint, left });
+    if let Some(stretch) = store.stretch_by(place, &walk.key, walk.hint, walk.left) {
+        return Some(stretch);
     }
-    trace.open(Rule::Idx4)?;
-    let left = walk.left;
-    Ok(Walk { key, hint, left })
+    let step = store.step_by(place, &walk.key, walk.hint);
+    let id = element_of(step.next)?;
+    let ahead = store.step_by(place, &Key::Elem(id), step.hint);
+    Some(Stretch {
+        count: 1,
+        bits: u64::from(ahead.present),
+        least: id,
+        last: id,
+        hint: step.hint,
+    })
 }
 
 /// Goes over the next elements of the list at the place, one or more.
@@ -153,8 +147,8 @@ fn go_on<S: TreeStore>(
         × ((i : AnyId) → next_of walk.now.key (here at (S.tree store.now)) ≢ Some (To i)))) }
     ensures grown { IsGrown trace.old trace.new }
 {
-    let Some(stretch) = store.stretch_by(place, &walk.key, walk.hint, walk.left) else {
-        return go_over_one(store, place, walk, trace);
+    let Some(stretch) = stretch_behind(store, place, walk) else {
+        return Err(EvalFault::PastEnd);
     };
     let present = go_over(stretch.count, stretch.bits, trace)?;
     Ok(Walk {

@@ -36,10 +36,10 @@ pub shown_float : (names : List (List ℕ)) (shown : Shown) (tree : Context) →
 unfolding shown_members
 shown_float names shown tree =
     object_float (shown_members names shown tree)
-    (refl, (refl, (refl, (ids_float names shown.ops.now, (ids_float names shown.queue.now, (ids_float names shown.recv.now, (ids_float names shown.send.now, (context_float names tree, (vars_float names (vars_of shown.vars.now.entries), tt)))))))))
+    (refl, (refl, (refl, (ids_float names shown.ops.items, (ids_float names shown.queue.items, (ids_float names shown.recv.items, (ids_float names shown.send.items, (context_float names tree, (vars_float names (vars_of shown.vars.now.entries), tt)))))))))
 
 pub briefly_float : (names : List (List ℕ)) (shown : Shown) → has_float (object_of (shown_briefly names shown)) ≡ false
 unfolding shown_briefly
 briefly_float names shown =
     object_float (shown_briefly names shown)
-    (refl, (refl, (refl, (ids_float names shown.ops.now, (ids_float names shown.queue.now, (ids_float names shown.recv.now, (ids_float names shown.send.now, (vars_float names (vars_of shown.vars.now.entries), tt))))))))
+    (refl, (refl, (refl, (ids_float names shown.ops.items, (ids_float names shown.queue.items, (ids_float names shown.recv.items, (ids_float names shown.send.items, (vars_float names (vars_of shown.vars.now.entries), tt))))))))

@@ -31,8 +31,8 @@ brief_is names A shown tree h text e = e ∙ rw (h.acted, h.left, h.ops, h.queue
 -- the members before the tree are sent, and then the others
 before_others : (names : List (List ℕ)) (shown : Shown) (ms : Members) (old mid end : Log) → SendsBeforeTree names shown old mid → SendsMembers ms mid end
     → SendsMembers (member (codes "acted") (boolean shown.acted) (member (codes "left") (number (unsigned shown.left)) (member (codes "name") (string shown.name.now)
-    (member (codes "ops") (ids_data names shown.ops.now) (member (codes "queue") (ids_data names shown.queue.now) (member (codes "recv") (ids_data names shown.recv.now)
-    (member (codes "send") (ids_data names shown.send.now) ms))))))) old end
+    (member (codes "ops") (ids_data names shown.ops.items) (member (codes "queue") (ids_data names shown.queue.items) (member (codes "recv") (ids_data names shown.recv.items)
+    (member (codes "send") (ids_data names shown.send.items) ms))))))) old end
 before_others names shown ms old mid end sent more =
     let m1 = sent.1 in
     let s2 = sent.2 in

@@ -18,17 +18,16 @@ use Rattle.jc_dump.specs.Dump.{ids_of_dumped}
 use Rattle.jc_dump.specs.DumpParts.{HasParts}
 
 -- the parts of K, which is the stored state of A, are those of A
-pub parts_kept : (A K : State) (shown : Shown) (tree : Context) (left : List Cmd) (ops : List Id) (queue recv send : List Op) → K ≡ stored_state A
-    → shown.acted ≡ K.acted → shown.left ≡ length left → map cmd_of left ≡ K.left
-    → shown.ops.now ≡ ops → ops ≡ A.ops
-    → shown.queue.now ≡ ids_of_dumped queue → queue ≡ K.queue
-    → shown.recv.now ≡ ids_of_dumped recv → recv ≡ K.recv
-    → shown.send.now ≡ ids_of_dumped send → send ≡ K.send
+pub parts_kept : (A K : State) (shown : Shown) (tree : Context) (left : List Cmd) (queue recv send : List Op) → K ≡ stored_state A
+    → shown.acted ≡ K.acted → shown.left ≡ length left → map cmd_of left ≡ K.left → shown.ops.items ≡ A.ops
+    → shown.queue.items ≡ ids_of_dumped queue → queue ≡ K.queue
+    → shown.recv.items ≡ ids_of_dumped recv → recv ≡ K.recv
+    → shown.send.items ≡ ids_of_dumped send → send ≡ K.send
     → tree ≡ K.tree → vars_of shown.vars.now.entries ≡ K.vars → HasParts A shown tree
-parts_kept A K shown tree left ops queue recv send k acted n l o o2 q q2 r r2 s s2 t v = record {
+parts_kept A K shown tree left queue recv send k acted n l o q q2 r r2 s s2 t v = record {
   acted = sym (acted ∙ ap (λ (S : State). S.acted) k);
   left = sym (n ∙ (sym (length-map left cmd_of) ∙ ap length (l ∙ ap (λ (S : State). S.left) k)));
-  ops = sym (o ∙ o2);
+  ops = sym o;
   queue = sym (q ∙ ap ids_of_dumped (q2 ∙ ap (λ (S : State). S.queue) k) ∙ kept_ids A.queue);
   recv = sym (r ∙ ap ids_of_dumped (r2 ∙ ap (λ (S : State). S.recv) k) ∙ kept_ids A.recv);
   send = sym (s ∙ ap ids_of_dumped (s2 ∙ ap (λ (S : State). S.send) k) ∙ kept_ids A.send);

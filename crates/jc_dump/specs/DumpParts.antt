@@ -22,10 +22,10 @@ shown_members names shown tree =
     (codes "acted", boolean shown.acted)
     ∷ (codes "left", number (unsigned shown.left))
     ∷ (codes "name", string shown.name.now)
-    ∷ (codes "ops", ids_data names shown.ops.now)
-    ∷ (codes "queue", ids_data names shown.queue.now)
-    ∷ (codes "recv", ids_data names shown.recv.now)
-    ∷ (codes "send", ids_data names shown.send.now)
+    ∷ (codes "ops", ids_data names shown.ops.items)
+    ∷ (codes "queue", ids_data names shown.queue.items)
+    ∷ (codes "recv", ids_data names shown.recv.items)
+    ∷ (codes "send", ids_data names shown.send.items)
     ∷ (codes "tree", context_data names tree)
     ∷ (codes "vars", vars_data names (vars_of shown.vars.now.entries))
     ∷ []
@@ -36,10 +36,10 @@ shown_briefly names shown =
     (codes "acted", boolean shown.acted)
     ∷ (codes "left", number (unsigned shown.left))
     ∷ (codes "name", string shown.name.now)
-    ∷ (codes "ops", ids_data names shown.ops.now)
-    ∷ (codes "queue", ids_data names shown.queue.now)
-    ∷ (codes "recv", ids_data names shown.recv.now)
-    ∷ (codes "send", ids_data names shown.send.now)
+    ∷ (codes "ops", ids_data names shown.ops.items)
+    ∷ (codes "queue", ids_data names shown.queue.items)
+    ∷ (codes "recv", ids_data names shown.recv.items)
+    ∷ (codes "send", ids_data names shown.send.items)
     ∷ (codes "vars", vars_data names (vars_of shown.vars.now.entries))
     ∷ []
 
@@ -53,18 +53,18 @@ SendsBeforeTree names shown =
     Then (SendsMember (codes "acted") (boolean shown.acted)) (
     Then (SendsMember (codes "left") (number (unsigned shown.left))) (
     Then (SendsMember (codes "name") (string shown.name.now)) (
-    Then (SendsMember (codes "ops") (ids_data names shown.ops.now)) (
-    Then (SendsMember (codes "queue") (ids_data names shown.queue.now)) (
-    Then (SendsMember (codes "recv") (ids_data names shown.recv.now)) (
-    SendsMember (codes "send") (ids_data names shown.send.now)))))))
+    Then (SendsMember (codes "ops") (ids_data names shown.ops.items)) (
+    Then (SendsMember (codes "queue") (ids_data names shown.queue.items)) (
+    Then (SendsMember (codes "recv") (ids_data names shown.recv.items)) (
+    SendsMember (codes "send") (ids_data names shown.send.items)))))))
 
 -- The parts and the tree are those of the state.
 pub record HasParts (A : State) (shown : Shown) (tree : Context) : Type 0 where
   pub acted : A.acted ≡ shown.acted
   pub left : length A.left ≡ shown.left
-  pub ops : A.ops ≡ shown.ops.now
-  pub queue : ids_of_dumped A.queue ≡ shown.queue.now
-  pub recv : ids_of_dumped A.recv ≡ shown.recv.now
-  pub send : ids_of_dumped A.send ≡ shown.send.now
+  pub ops : A.ops ≡ shown.ops.items
+  pub queue : ids_of_dumped A.queue ≡ shown.queue.items
+  pub recv : ids_of_dumped A.recv ≡ shown.recv.items
+  pub send : ids_of_dumped A.send ≡ shown.send.items
   pub tree_is : A.tree ≡ tree
   pub vars : A.vars ≡ vars_of shown.vars.now.entries

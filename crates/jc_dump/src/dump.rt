@@ -21,7 +21,7 @@ use std::alloc::{AllocError, Global};
 use std::collections::BTreeMap;
 
 /// What a dump shows of a replica beside its tree.
-#[derive(Clone, Copy)]
+#[derive(Drop)]
 pub(crate) struct Shown<'a> {
     pub(crate) name: &'a str,
     /// Whether it made an event of its yield.
@@ -29,13 +29,13 @@ pub(crate) struct Shown<'a> {
     /// The number of commands that are left.
     pub(crate) left: usize,
     /// The identifiers of the applied operations, in their order.
-    pub(crate) ops: &'a [Id],
+    pub(crate) ops: Vec<Id>,
     /// Those of the operations that it made.
-    pub(crate) queue: &'a [Id],
+    pub(crate) queue: Vec<Id>,
     /// Those of the operations that it received.
-    pub(crate) recv: &'a [Id],
+    pub(crate) recv: Vec<Id>,
     /// Those of the operations that it offers.
-    pub(crate) send: &'a [Id],
+    pub(crate) send: Vec<Id>,
     pub(crate) vars: &'a BTreeMap<Text, Bound>,
 }
 
@@ -104,10 +104,10 @@ fn send_before_tree<W: Serializer>(
     send_member("acted", &shown.acted, out)?;
     send_member("left", &shown.left, out)?;
     send_member("name", &shown.name, out)?;
-    send_ids_member(alloc, names, "ops", shown.ops, out)?;
-    send_ids_member(alloc, names, "queue", shown.queue, out)?;
-    send_ids_member(alloc, names, "recv", shown.recv, out)?;
-    send_ids_member(alloc, names, "send", shown.send, out)
+    send_ids_member(alloc, names, "ops", shown.ops.as_slice(), out)?;
+    send_ids_member(alloc, names, "queue", shown.queue.as_slice(), out)?;
+    send_ids_member(alloc, names, "recv", shown.recv.as_slice(), out)?;
+    send_ids_member(alloc, names, "send", shown.send.as_slice(), out)
 }
 
 /// Sends a member of an object: its name, then its value.

@@ -1,3 +1,4 @@
+use Rattle.std.proofs.Common.{sym}
 use Rattle.std.proofs.lemmas.Result.{on_ok_weaker}
 use Rattle.jc_dump.proofs.dump.send_before_tree.Goals as goal
 
@@ -19,11 +20,11 @@ returns g c =
           c.in_ok-send_member-3.ensures,
           (
             ops,
-            c.in_ok-send_ids_member.ensures,
+            rw (sym c.as_slice.ensures.value) c.in_ok-send_ids_member.ensures,
             (
               queue,
-              c.in_ok-send_ids_member-2.ensures,
-              (recv, c.in_ok-send_ids_member-3.ensures, sent),
+              rw (sym c.as_slice-2.ensures.value) c.in_ok-send_ids_member-2.ensures,
+              (recv, rw (sym c.as_slice-3.ensures.value) c.in_ok-send_ids_member-3.ensures, rw (sym c.as_slice-4.ensures.value) sent),
             ),
           ),
         ),
