@@ -37,8 +37,8 @@ pub record Along (show : Key → Json) (c : Context) (k : Key) (start now : Writ
   pub wrote : Wrote start now (items_front show (present (presences c)) (elements_after most k (links c)))
       (items_front show (present (presences c)) (elements_after (length (links c)) Head (links c)))
 
-pub along_begins : (show : Key → Json) (c : Context) (k : Key) (a : Written) → k ≡ Head → Along show c k a a
-along_begins show c k a e = rw e (record { most = length (links c); enough = steps_le (length (links c)) c Head; wrote = wrote_begins a _ })
+pub along_begins : (show : Key → Json) (c : Context) (a : Written) → Along show c Head a a
+along_begins show c a = record { most = length (links c); enough = steps_le (length (links c)) c Head; wrote = wrote_begins a _ }
 
 one_more : (show : Key → Json) (c : Context) (i : Id) (is : List Id) → items_front show (present (presences c)) (i ∷ is) ≡ item_of show (Elem i) c ++ items_front show (present (presences c)) is
 one_more show c i is = go (is_some (find key_cmp (Elem i) (present (presences c))))
@@ -51,18 +51,15 @@ one_more show c i is = go (is_some (find key_cmp (Elem i) (present (presences c)
 next_after : (k : Key) (i : Id) (most : ℕ) (c : Context) → next k c ≡ Some (To i) → elements_after (suc most) k (links c) ≡ i ∷ elements_after most (Elem i) (links c)
 next_after k i most c e = ap (λ o. followed o (λ j. elements_after most (Elem j) (links c))) e
 
-pub along_on : (show : Key → Json) (c : Context) (k j : Key) (i : Id) (a b d : Written) → (next k c ≡ Some (To i) → IsChainedList c) → next k c ≡ Some (To i) → j ≡ Elem i → Gains b d (item_of show j c) → Along show c k a b → Along show c j a d
-along_on show c k j i a b d h e je g w =
+pub along_on : (show : Key → Json) (c : Context) (k : Key) (i : Id) (a b d : Written) → (next k c ≡ Some (To i) → IsChainedList c) → next k c ≡ Some (To i) → Gains b d (item_of show (Elem i) c) → Along show c k a b → Along show c (Elem i) a d
+along_on show c k i a b d h e g w =
     let near : steps (Some (Elem i)) (length (links c)) c < steps (Some k) (length (links c)) c = nearer c k (Elem i) i h e refl in
-    let enough : steps (Some (Elem i)) (length (links c)) c ≤ w.most - 1 = omega (arith, near, w.enough) in
     let is : w.most ≡ suc (w.most - 1) = omega (arith, near, w.enough) in
     let left = elements_after (w.most - 1) (Elem i) (links c) in
     let here : elements_after w.most k (links c) ≡ i ∷ left = ap (λ m. elements_after m k (links c)) is ∙ next_after k i (w.most - 1) c e in
     let rest : items_front show (present (presences c)) (elements_after w.most k (links c)) ≡ item_of show (Elem i) c ++ items_front show (present (presences c)) left =
     ap (items_front show (present (presences c))) here ∙ one_more show c i left in
-    let gains : Gains b d (item_of show (Elem i) c) = subst (λ (x : Key). Gains b d (item_of show x c)) je g in
-    let on : Along show c (Elem i) a d = record { most = w.most - 1; enough = enough; wrote = wrote_more a b d (item_of show (Elem i) c) _ _ _ rest gains w.wrote } in
-    subst (λ (x : Key). Along show c x a d) (sym je) on
+    record { most = w.most - 1; enough = omega (arith, near, w.enough); wrote = wrote_more a b d (item_of show (Elem i) c) _ _ _ rest g w.wrote }
 
 no_more : (k : Key) (most : ℕ) (c : Context) → ((i : Id) → next k c ≢ Some (To i)) → elements_after most k (links c) ≡ []
 no_more k zero c h = refl

@@ -1,5 +1,5 @@
 -- About Visible and Parts: the members of a map, written one after another; what is shown at a key; the line.
-use Rattle.std.proofs.Common.{◌≡◌, ◌≢◌, ℕ, List, [], ◌∷◌, ◌++◌, Bool, true, false, cond, Option, Some, None, is_some, length, append_assoc, refl, sym, ◌∙◌, ap, subst, codes}
+use Rattle.std.proofs.Common.{◌≡◌, ◌≢◌, ℕ, zero, suc, ◌<◌, ◌≤◌, List, [], ◌∷◌, ◌++◌, Bool, true, false, cond, Option, Some, None, is_some, length, take, get_or, Bor, Contains, append_assoc, refl, sym, ◌∙◌, ap, subst, codes, arith}
 use Rattle.std.specs.List.{AllByRecursion}
 use Rattle.json.specs.Json.{Json, Members, no_members, member, object}
 use Rattle.json.specs.Print.{print}
@@ -7,28 +7,33 @@ use Rattle.json.specs.Token.{Token}
 use Rattle.json.specs.Token as T
 use Rattle.json.specs.Tree.{json_tokens, members_tokens}
 use Rattle.json.specs.Written.{Written}
-use Rattle.std.specs.declared.cmp.Ordering.TheVariants.{Greater}
-use Rattle.std.proofs.lemmas.List.{append-nil}
+use Rattle.std.proofs.lemmas.List.{append-nil, take_all, length-map}
 use Rattle.jc_rules.specs.declared.id.Id.{Id}
 use Rattle.jc_rules.specs.declared.key.Key.{Key}
 use Rattle.jc_rules.specs.declared.key.Key.TheVariants as K
 use Rattle.jc_rules.specs.Order.{key_cmp}
 use Rattle.jc_rules.specs.Entries.{IsRising, keys_of, find}
 use Rattle.jc_rules.specs.declared.key.Tagged.{Tagged}
-use Rattle.jc_rules.specs.declared.key.Tagged.TheVariants.{MapT, ListT, RegT}
-use Rattle.jc_rules.specs.Paths.{HasContext}
-use Rattle.jc_rules.specs.ContextsAt.{node_in, or_empty}
-use Rattle.jc_rules.specs.Context.{Context, context, presences, links, content, Register}
-use Rattle.jc_tree.specs.Tree.{is_after}
-use Rattle.jc_tree.specs.Walks.{keys_above, entry_of}
-use Rattle.jc_tree.proofs.WalksLemmas.{above-none, none_above, step}
+use Rattle.jc_rules.specs.declared.key.Tagged.TheVariants.{MapT, ListT}
+use Rattle.jc_rules.specs.ContextsAt.{or_empty}
+use Rattle.jc_rules.specs.Context.{Context, context, keys, presences, links, registers, content, Register}
+use Rattle.jc_rules.specs.WellFormed.{IsWellFormedContext}
+use Rattle.jc_tree.specs.declared.store.Hint.{Hint}
+use Rattle.jc_tree.specs.Tree.{Tree, HasPlace, here, all_keys, keys_lent}
+use Rattle.jc_tree.specs.Walks.{entry_of, entries_at}
+use Rattle.jc_tree.proofs.WalksEntriesLemmas.{all-left, all-right, all_entries, entries_at-more}
+use Rattle.jc_tree.proofs.WellFormedLemmas.{presences_rise}
+use Rattle.jc_meaning.proofs.ComparedContextsLemmas.{StandsBelow, stands_below}
+use Rattle.jc_view.specs.declared.document.Branch.{Branch}
+use Rattle.jc_view.specs.declared.document.Branch.TheVariants as B
+use Rattle.jc_view.specs.declared.document.Form.{Form}
 use Rattle.jc_view.specs.declared.document.Form.TheVariants as F
-use Rattle.jc_view.specs.Visible.{GoesThrough, present, marked, members_at, elements_after, with_part, with_values, parts_json, one_of, map_json, list_json, document, line_json}
+use Rattle.jc_view.specs.Visible.{GoesThrough, present, marked, members_at, elements_after, or_no_value, with_part, with_values, parts_json, one_of, map_json, list_json, document, line_json}
 use Rattle.jc_json.specs.Gains.{Gains}
-use Rattle.jc_view.specs.Parts.{parts_shown_at, child_json, is_list, form_of, members_front, member_shown, items_front, part_tokens, values_tokens, first_tokens, if_so}
-use Rattle.jc_view.proofs.PresentLemmas.{present_by}
+use Rattle.jc_view.specs.Parts.{parts_shown_at, node_json, child_json, shows_at, tag_of, form_of, members_front, member_shown, items_front, part_tokens, values_tokens, first_tokens, if_so}
+use Rattle.jc_view.proofs.PresentLemmas.{present_by, place_is}
 use Rattle.jc_view.proofs.ElementsLemmas.{items_tokens_are}
-use Rattle.jc_json.proofs.GainsLemmas.{Wrote, wrote_begins}
+use Rattle.jc_json.proofs.GainsLemmas.{gains_then}
 
 pub members_tokens_are : (show : Key → Json) (p : List (Key × List Id)) → members_tokens (members_at show p) ≡ members_front show p ++ T.end_object ∷ []
 members_tokens_are show [] = refl
@@ -51,21 +56,32 @@ present-append [] q = refl
 present-append ((k, []) ∷ p) q = present-append p q
 present-append ((k, i ∷ is) ∷ p) q = ap (λ r. (k, i ∷ is) ∷ r) (present-append p q)
 
-pub rest_is : (show : Key → Json) (c : Context) (last : Option Key) (k : Key) → is_after last k ≡ true → AllByRecursion (λ j. is_after last j ≡ true → key_cmp k j ≢ Greater) (keys_of (presences c)) → IsRising key_cmp (keys_of (presences c))
-    → members_front show (present (keys_above last (presences c))) ≡ member_shown show k c ++ members_front show (present (keys_above (Some k) (presences c)))
-rest_is show c last k a h r =
-    ap (λ p. members_front show (present p)) (step last k (presences c) a h r)
-    ∙ ap (members_front show) (present-append (entry_of k (find key_cmp k (presences c))) (keys_above (Some k) (presences c)))
-    ∙ front-append show (present (entry_of k (find key_cmp k (presences c)))) (present (keys_above (Some k) (presences c)))
+one_lent_more : (lent : List (Bor Key × Hint)) (n : ℕ) (x : Bor Key × Hint) → n < length lent → x ≡ get_or lent n x → take (suc n) (keys_lent lent) ≡ take n (keys_lent lent) ++ x.0.now ∷ []
+one_lent_more [] n x h e = absurd (omega arith)
+one_lent_more (l ∷ lent) zero x h e = ap (λ (y : Bor Key × Hint). y.0.now ∷ []) (sym e)
+one_lent_more (l ∷ lent) (suc n) x h e = ap (λ ks. l.0.now ∷ ks) (one_lent_more lent n x (omega arith) e)
 
-pub map_begins : (show : Key → Json) (c : Context) (a : Written) → Wrote a a (members_front show (present (keys_above None (presences c)))) (members_front show (present (presences c)))
-map_begins show c a =
-    subst (λ (p : List (Key × List Id)). Wrote a a (members_front show (present p)) (members_front show (present (presences c)))) (sym (above-none (presences c))) (wrote_begins a _)
+-- the members at the first so many of the keys
+abbrev pub members_among : (Key → Json) → List (Bor Key × Hint) → ℕ → Context → List Token
+members_among show lent n c = members_front show (present (entries_at (take n (keys_lent lent)) (presences c)))
 
-pub map_ends : (show : Key → Json) (c : Context) (last : Option Key) (a b : Written) → AllByRecursion (λ j. is_after last j ≡ false) (keys_of (presences c)) → Wrote a b (members_front show (present (keys_above last (presences c)))) (members_front show (present (presences c)))
-    → Wrote a b [] (members_front show (present (presences c)))
-map_ends show c last a b h w =
-    subst (λ (p : List (Key × List Id)). Wrote a b (members_front show (present p)) (members_front show (present (presences c)))) (none_above last (presences c) h) w
+pub one_member_more : (show : Key → Json) (lent : List (Bor Key × Hint)) (n : ℕ) (x : Bor Key × Hint) (c : Context) (a b d : Written) → n < length lent → x ≡ get_or lent n x → Gains a b (members_among show lent n c) → Gains b d (member_shown show x.0.now c) → Gains a d (members_among show lent (suc n) c)
+one_member_more show lent n x c a b d h is before more =
+    let ks = take n (keys_lent lent) in
+    let one = entry_of x.0.now (find key_cmp x.0.now (presences c)) in
+    let all : members_among show lent (suc n) c ≡ members_among show lent n c ++ member_shown show x.0.now c =
+    ap (λ js. members_front show (present (entries_at js (presences c)))) (one_lent_more lent n x h is)
+    ∙ ap (λ p. members_front show (present p)) (entries_at-more ks x.0.now (presences c))
+    ∙ ap (members_front show) (present-append (entries_at ks (presences c)) one)
+    ∙ front-append show (present (entries_at ks (presences c))) (present one) in
+    subst (Gains a d) (sym all) (gains_then a b d (members_among show lent n c) (member_shown show x.0.now c) before more)
+
+-- at all keys these are all members
+pub all_members : (show : Key → Json) (lent : List (Bor Key × Hint)) (n : ℕ) (c : Context) → length lent ≤ n → IsWellFormedContext c → IsRising key_cmp (keys_lent lent) → AllByRecursion (Contains (keys_lent lent)) (all_keys c) → members_among show lent n c ≡ members_front show (present (presences c))
+all_members show lent n c h kept r all =
+    let whole : take n (keys_lent lent) ≡ keys_lent lent = take_all n (keys_lent lent) (omega (arith, h, length-map lent (λ (l : Bor Key × Hint). l.0.now))) in
+    let those = all-right (Contains (keys_lent lent)) (keys c) (keys_of (presences c)) (all-left (Contains (keys_lent lent)) (keys c ++ keys_of (presences c)) (keys_of (links c)) all) in
+    ap (λ ks. members_front show (present (entries_at ks (presences c)))) whole ∙ ap (λ p. members_front show (present p)) (all_entries (keys_lent lent) (presences c) r (presences_rise c kept) those)
 
 -- a member, if its key is a name that is present
 pub member_by : (show : Key → Json) (s : List ℕ) (c : Context) (b : Bool) → b ≡ is_some (find key_cmp (K.Name s) (present (presences c))) → IsRising key_cmp (keys_of (presences c))
@@ -78,17 +94,6 @@ member_by show s c b e h = go (find key_cmp (K.Name s) (presences c)) refl
     go (Some (i ∷ is)) f =
         let n : b ≡ true = e ∙ present_by (K.Name s) (presences c) (Some (i ∷ is)) h (sym f) in
         rw (f, n) (ap (λ x. T.key (marked s) ∷ x) (append-nil (json_tokens (show (K.Name s)))))
-
-pub no_member : (show : Key → Json) (k : Key) (c : Context) → ((s : List ℕ) → k ≢ K.Name s) → member_shown show k c ≡ []
-no_member show k c h = go k h (find key_cmp k (presences c))
-  where
-    go : (j : Key) → ((s : List ℕ) → j ≢ K.Name s) → (o : Option (List Id)) → members_front show (present (entry_of j o)) ≡ []
-    go j g None = refl
-    go j g (Some []) = refl
-    go K.Doc g (Some (i ∷ is)) = refl
-    go K.Head g (Some (i ∷ is)) = refl
-    go (K.Name s) g (Some (i ∷ is)) = absurd (g s refl)
-    go (K.Elem d) g (Some (i ∷ is)) = refl
 
 -- ---- one place
 
@@ -115,55 +120,40 @@ every_is names r map list m l =
     ∙ sym (append_assoc (p1 ++ p2) v (T.end_object ∷ [])) in
     ap (λ x. T.begin_object ∷ T.key (codes "!conflict") ∷ T.begin_object ∷ (x ++ T.end_object ∷ [])) parts
 
-pub value_place : (names : List (List ℕ)) (r : Register) (map list : Bool) (m l : Json) → form_of r map list ≡ F.Value → json_tokens (one_of names r (if_so map m) (if_so list l)) ≡ first_tokens r
-value_place names (e ∷ []) false false m l h = refl
-value_place names (e ∷ []) true false m l h = cc
-value_place names (e ∷ []) false true m l h = cc
-value_place names (e ∷ []) true true m l h = cc
-value_place names [] false false m l h = cc
-value_place names [] true false m l h = cc
-value_place names [] false true m l h = cc
-value_place names [] true true m l h = cc
-value_place names (e ∷ d ∷ r) map list m l h = cc
+-- the tokens of a place that is shown in this form, with what its map and its list show
+abbrev pub form_tokens : List (List ℕ) → Register → Bool → Bool → (Branch → Json) → Form → List Token
+form_tokens names r map list child F.Value = first_tokens r
+form_tokens names r map list child (F.Child b) = json_tokens (child b)
+form_tokens names r map list child F.Every =
+    json_tokens (object (member (codes "!conflict") (parts_json names r (if_so map (child B.Map)) (if_so list (child B.List))) no_members))
 
-pub map_place : (names : List (List ℕ)) (r : Register) (map list : Bool) (m l : Json) → form_of r map list ≡ F.Map → json_tokens (one_of names r (if_so map m) (if_so list l)) ≡ json_tokens m
-map_place names [] true false m l h = refl
-map_place names [] false false m l h = cc
-map_place names [] false true m l h = cc
-map_place names [] true true m l h = cc
-map_place names (e ∷ []) false false m l h = cc
-map_place names (e ∷ []) true false m l h = cc
-map_place names (e ∷ []) false true m l h = cc
-map_place names (e ∷ []) true true m l h = cc
-map_place names (e ∷ d ∷ r) map list m l h = cc
+by_form : (names : List (List ℕ)) (r : Register) (map list : Bool) (child : Branch → Json)
+    → json_tokens (one_of names r (if_so map (child B.Map)) (if_so list (child B.List))) ≡ form_tokens names r map list child (form_of r map list)
+by_form names [] false false child = refl
+by_form names [] true false child = refl
+by_form names [] false true child = refl
+by_form names [] true true child = refl
+by_form names (e ∷ []) false false child = refl
+by_form names (e ∷ []) true false child = refl
+by_form names (e ∷ []) false true child = refl
+by_form names (e ∷ []) true true child = refl
+by_form names (e ∷ d ∷ r) false false child = refl
+by_form names (e ∷ d ∷ r) true false child = refl
+by_form names (e ∷ d ∷ r) false true child = refl
+by_form names (e ∷ d ∷ r) true true child = refl
 
-pub list_place : (names : List (List ℕ)) (r : Register) (map list : Bool) (m l : Json) → form_of r map list ≡ F.List → json_tokens (one_of names r (if_so map m) (if_so list l)) ≡ json_tokens l
-list_place names [] false true m l h = refl
-list_place names [] false false m l h = cc
-list_place names [] true false m l h = cc
-list_place names [] true true m l h = cc
-list_place names (e ∷ []) false false m l h = cc
-list_place names (e ∷ []) true false m l h = cc
-list_place names (e ∷ []) false true m l h = cc
-list_place names (e ∷ []) true true m l h = cc
-list_place names (e ∷ d ∷ r) map list m l h = cc
-
-pub every_place : (names : List (List ℕ)) (r : Register) (map list : Bool) (m l : Json) → form_of r map list ≡ F.Every
-    → json_tokens (one_of names r (if_so map m) (if_so list l)) ≡ json_tokens (object (member (codes "!conflict") (parts_json names r (if_so map m) (if_so list l)) no_members))
-every_place names [] true true m l h = refl
-every_place names [] false false m l h = refl
-every_place names [] true false m l h = cc
-every_place names [] false true m l h = cc
-every_place names (e ∷ []) false false m l h = cc
-every_place names (e ∷ []) true false m l h = refl
-every_place names (e ∷ []) false true m l h = refl
-every_place names (e ∷ []) true true m l h = refl
-every_place names (e ∷ d ∷ r) false false m l h = refl
-every_place names (e ∷ d ∷ r) true false m l h = refl
-every_place names (e ∷ d ∷ r) false true m l h = refl
-every_place names (e ∷ d ∷ r) true true m l h = refl
+-- what is shown at a key, by the form that was chosen for its values and for whether its map and its list are shown
+pub place_by : (names : List (List ℕ)) (goes : GoesThrough) (at : List Tagged) (k : Key) (c : Context) (r : Register) (map list : Bool) (form : Form)
+    → r ≡ or_no_value (find key_cmp k (registers c)) → map ≡ shows_at goes at (MapT k) c → list ≡ shows_at goes at (ListT k) c → form ≡ form_of r map list
+    → json_tokens (parts_shown_at names goes at c k) ≡ form_tokens names r map list (λ b. child_json names goes at (tag_of b k) c) form
+place_by names goes at k c r map list form er em el ef =
+    rw (ef, er, em, el) (ap json_tokens (place_is names goes at k c) ∙ by_form names (or_no_value (find key_cmp k (registers c))) (shows_at goes at (MapT k) c) (shows_at goes at (ListT k) c) (λ b. child_json names goes at (tag_of b k) c))
 
 -- ---- whole maps and lists
+
+pub child_stands : (b : Branch) (at : List Tagged) (k : Key) (a : Tree) → HasPlace at a → is_some (content (tag_of b k) (here at a)) ≡ true → StandsBelow at (tag_of b k) a
+child_stands B.Map at k a h e = stands_below at (MapT k) a h tt e
+child_stands B.List at k a h e = stands_below at (ListT k) a h tt e
 
 module _ (names : List (List ℕ)) (goes : GoesThrough) (at : List Tagged) where
   pub map_is : (c : Context) → json_tokens (map_json names goes at c) ≡ (T.begin_object ∷ []) ++ members_front (parts_shown_at names goes at c) (present (presences c)) ++ (T.end_object ∷ [])
@@ -173,15 +163,10 @@ module _ (names : List (List ℕ)) (goes : GoesThrough) (at : List Tagged) where
       ≡ (T.begin_array ∷ []) ++ items_front (parts_shown_at names goes at c) (present (presences c)) (elements_after (length (links c)) K.Head (links c)) ++ (T.end_array ∷ [])
   list_is (context m l r p n) = ap (λ x. T.begin_array ∷ x) (items_tokens_are (parts_shown_at names goes at (context m l r p n)) (present p) (elements_after (length n) K.Head n))
 
-  pub list_child : (t : Tagged) (c d : Context) → is_list t ≡ true → node_in (content t c) ≡ Some d → list_json names goes (at ++ t ∷ []) d ≡ child_json names goes at t c
-  list_child (ListT k) c d h e = sym (ap (λ o. list_json names goes (at ++ ListT k ∷ []) (or_empty o)) e)
-  list_child (MapT k) c d h e = cc
-  list_child (RegT k) c d h e = cc
-
-  pub map_child : (t : Tagged) (c d : Context) → HasContext t → is_list t ≡ false → node_in (content t c) ≡ Some d → map_json names goes (at ++ t ∷ []) d ≡ child_json names goes at t c
-  map_child (MapT k) c d x h e = sym (ap (λ o. map_json names goes (at ++ MapT k ∷ []) (or_empty o)) e)
-  map_child (ListT k) c d x h e = cc
-  map_child (RegT k) c d x h e = absurd x
+  -- what stands under a key, at the path that is longer by it
+  pub child_is : (b : Branch) (k : Key) (p : List Tagged) (a : Tree) → StandsBelow at (tag_of b k) a → p ≡ at ++ tag_of b k ∷ [] → node_json names goes p (tag_of b k) (here p a) ≡ child_json names goes at (tag_of b k) (here at a)
+  child_is b k p a x e =
+      ap (λ (s : List Tagged). node_json names goes s (tag_of b k) (here s a)) e ∙ ap (node_json names goes (at ++ tag_of b k ∷ []) (tag_of b k)) (x.is ∙ sym (ap or_empty x.found))
 
 -- ---- the line
 

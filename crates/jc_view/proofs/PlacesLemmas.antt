@@ -18,25 +18,6 @@ use Rattle.jc_view.specs.Parts.{parts_shown_at, part_tokens, member_tokens}
 use Rattle.jc_view.specs.Places.{shown_in, place_line}
 use Rattle.jc_view.specs.Visible.{GoesThrough, document, goes_by, line_json, present, view_line}
 
--- where no context is found, none is there
-pub no_place : (b : Bool) (o : Option Context) → (b ≡ true ↔ o ≢ None) → b ≡ false → o ≡ None
-no_place b None w f = refl
-no_place b (Some c) w f = let no : false ≡ true = sym f ∙ w.1 (λ e. cc) in cc
-
-member_if : (k : List ℕ) (b : Bool) (j : Json) → member_tokens k (cond b (Some j) None) ≡ part_tokens k b j
-member_if k true j = refl
-member_if k false j = refl
-
-module _ (names : List (List ℕ)) (goes : GoesThrough) (at : List Tagged) (k : Key) (c : Context) where
-  pub shown_nowhere : node_at at c ≡ None → member_tokens (codes "doc") (shown_in names goes at (node_at at c) k) ≡ []
-  shown_nowhere e = ap (λ o. member_tokens (codes "doc") (shown_in names goes at o k)) e
-
-  pub shown_there : node_at at c ≢ None → member_tokens (codes "doc") (shown_in names goes at (node_at at c) k)
-      ≡ part_tokens (codes "doc") (is_some (find key_cmp k (present (presences (context_at at c))))) (parts_shown_at names goes at (context_at at c) k)
-  shown_there h =
-      ap (λ o. member_tokens (codes "doc") (shown_in names goes at o k)) (there at c h)
-      ∙ member_if (codes "doc") (is_some (find key_cmp k (present (presences (context_at at c))))) (parts_shown_at names goes at (context_at at c) k)
-
 pub line_tokens : (name : List ℕ) (shown : Option Json) → json_tokens (line_json name shown)
     ≡ (T.begin_object ∷ []) ++ member_tokens (codes "doc") shown ++ (T.key (codes "name") ∷ []) ++ (T.string name ∷ []) ++ (T.end_object ∷ [])
 line_tokens name None = refl

@@ -17,6 +17,8 @@ use Rattle.jc_rules.specs.Entries.{find}
 use Rattle.jc_rules.specs.Context.{Context, context, Register, content, presences}
 use Rattle.jc_rules.specs.ContextsAt.{node_in, or_empty}
 use Rattle.jc_tree.specs.Walks.{entry_of}
+use Rattle.jc_view.specs.declared.document.Branch.{Branch as AnyBranch}
+use Rattle.jc_view.specs.declared.document.Branch.TheVariants as B
 use Rattle.jc_view.specs.declared.document.Form.{Form as AnyForm}
 use Rattle.jc_view.specs.declared.document.Form.TheVariants as F
 use Rattle.jc_json.specs.Values.{value_json, pair_items}
@@ -27,6 +29,15 @@ use Rattle.jc_view.specs.Visible.{GoesThrough, is_alive, present, at_key, marked
 abbrev pub parts_shown_at : List (List ℕ) → GoesThrough → List Tagged → Context → Key → Json
 parts_shown_at names goes at (context m l r p n) k =
     at_key names (is_alive goes at (present p)) (maps_in names goes at m) (lists_in names goes at l) r k
+
+-- the tagged key of a map or a list, and its name in a conflict
+abbrev pub tag_of : AnyBranch → Key → Tagged
+tag_of B.Map k = MapT k
+tag_of B.List k = ListT k
+
+abbrev pub name_of : AnyBranch → List ℕ
+name_of B.Map = codes "map"
+name_of B.List = codes "list"
 
 -- a context under a tagged key, in which the path ends
 abbrev pub node_json : List (List ℕ) → GoesThrough → List Tagged → Tagged → Context → Json
@@ -41,8 +52,8 @@ shows_at goes at t c = is_some (content t c) && is_alive goes at (present (prese
 -- the form of a place: its one alternative, or all
 abbrev pub form_of : Register → Bool → Bool → AnyForm
 form_of (e ∷ []) false false = F.Value
-form_of [] true false = F.Map
-form_of [] false true = F.List
+form_of [] true false = F.Child B.Map
+form_of [] false true = F.Child B.List
 form_of r m l = F.Every
 
 -- the tokens of members without the end

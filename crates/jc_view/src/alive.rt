@@ -2,26 +2,14 @@
 
 ghost use Rattle.std.specs.Prelude.{◌≡◌, option_copied};
 ghost use Rattle.jc_rules.specs.Table.{op_of};
-ghost use Rattle.jc_replica.specs.Operations.{AreInOrder};
 ghost use Rattle.jc_meaning.specs.Effects.{target, value_in, is_made_by, passed, goes_through};
 ghost use Rattle.jc_rules.specs.Order.{same_key};
 ghost use Rattle.jc_view.specs.Visible.{applied_op, goes_by, some_goes};
 ghost use Rattle.jc_view.specs.Parts.{has_tag_of};
 
-use jc_replica::Replica;
+use jc_replica::{Replica, find};
 use jc_rules::{Id, Key, Mutation, Op, Tagged, Value, compare_keys};
 use jc_tree::TreeStore;
-
-/// The operation with the identifier.
-fn find(ops: &[Op], id: Id) -> Option<&Op>
-    requires { AreInOrder ops.now }
-    ensures { option_copied result ≡ op_of id ops.now }
-{
-    match ops.binary_search_by_key(&id, |op| op.id) {
-        Ok(place) => Some(&ops[place]),
-        Err(_) => None,
-    }
-}
 
 /// The operation with the identifier, if the replica has applied it.
 fn applied<S: TreeStore>(replica: &Replica<S>, id: Id) -> Option<&Op>

@@ -11,11 +11,11 @@ ghost use Rattle.jc_view.specs.Parts.{member_tokens};
 ghost use Rattle.jc_view.specs.Places.{shown_in, place_line};
 ghost use Rattle.jc_view.specs.Visible.{goes_by};
 
-use crate::document::{is_present, write_place};
+use crate::document::{View, is_present, write_place};
 use jc_network::{CompareFault, Net};
 use jc_replica::Replica;
 use jc_rules::{Cursor, Tagged, Text, name_at};
-use jc_tree::{TreeStore, is_place, place_of};
+use jc_tree::{ANYWHERE, KeyAt, TreeStore, is_place, place_of};
 use json::Writer;
 use std::alloc::{AllocError, Global};
 
@@ -32,36 +32,28 @@ fn copy_path(alloc: Global, path: &[Tagged]) -> Result<Vec<Tagged>, AllocError>
 
 /// Writes what is shown at a cursor as a member, if something is.
 fn write_shown<S: TreeStore>(
-    alloc: Global,
-    names: &[Text],
-    replica: &Replica<S>,
-    store: &S,
+    view: &View<'_, S>,
     cursor: &Cursor,
     out: &mut Writer,
 ) -> Result<(), AllocError>
-    requires { IsChained (S.tree store.now).now }
+    requires { IsChained (S.tree view.now.store.now).now }
     ensures { OnOk result (Gains out.old out.new (member_tokens (codes "doc")
-        (shown_in names.now (goes_by replica.now.history.now) cursor.now.path
-        (node_at cursor.now.path (S.tree store.now).now) cursor.now.last))) }
+        (shown_in view.now.names.now (goes_by view.now.replica.now.history.now) cursor.now.path
+        (node_at cursor.now.path (S.tree view.now.store.now).now) cursor.now.last))) }
 {
     let path = cursor.path.as_slice();
-    if !is_place(store, path) {
+    if !is_place(view.store, path) {
         return Ok(());
     }
-    let place = place_of(store, path);
-    if is_present(store, place, path, &cursor.last) {
-        let mut at = copy_path(alloc, path)?;
+    let key = KeyAt {
+        place: place_of(view.store, path),
+        key: &cursor.last,
+        hint: ANYWHERE,
+    };
+    if is_present(view.store, key) {
+        let mut at = copy_path(view.alloc, path)?;
         out.key("doc")?;
-        write_place(
-            alloc,
-            names,
-            replica,
-            store,
-            place,
-            &mut at,
-            &cursor.last,
-            out,
-        )?;
+        write_place(view, &mut at, key, out)?;
     }
     Ok(())
 }
@@ -78,9 +70,15 @@ fn place_line<S: TreeStore>(
     requires { IsChained replica.now.history.now.tree }
     ensures { IfOk result (λ line. line.items ≡ place_line names.now name.now replica.now.history.now cursor.now) }
 {
+    let view = View {
+        alloc,
+        names,
+        replica,
+        store: replica.tree(),
+    };
     let mut out = Writer::new(Vec::new(alloc));
     out.begin_object()?;
-    write_shown(alloc, names, replica, replica.tree(), cursor, &mut out)?;
+    write_shown(&view, cursor, &mut out)?;
     out.key("name")?;
     out.string(name)?;
     out.end_object()?;

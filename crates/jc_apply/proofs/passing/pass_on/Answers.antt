@@ -1,6 +1,5 @@
 use Rattle.std.proofs.Common.{refl, ◌∙◌, ap, Some}
 use Rattle.jc_rules.specs.declared.key.Key.TheVariants.{Elem}
-use Rattle.jc_rules.proofs.DerivesLemmas.{same_rows}
 use Rattle.jc_tree.specs.Tree.{here}
 use Rattle.jc_apply.proofs.InsertLemmas.{passes_one, longer_over}
 use Rattle.jc_apply.proofs.passing.pass_on.Goals as goal
