@@ -135,14 +135,19 @@ longer_below P t c d h = subst (λ z. OnlyLoses z (seen (P ++ t ∷ []) d)) (sym
 
 -- ---- a path at a depth
 
-pub longer_at : (xs : List Tagged) (n : ℕ) (x : Tagged) → n < length xs → x ≡ get_or xs n x → take (n + 1) xs ≡ take n xs ++ x ∷ []
-longer_at xs n x h e = take_more xs n x h ∙ ap (λ (y : Tagged). take n xs ++ y ∷ []) (sym e)
+-- the tagged key at the depth
+pub record IsKeyAt (path : List Tagged) (n : ℕ) (t : Tagged) : Type 0 where
+  pub longer : take (n + 1) path ≡ take n path ++ t ∷ []
+  pub split : path ≡ take n path ++ t ∷ drop (n + 1) path
 
-pub split_at : (xs : List Tagged) (n : ℕ) (x : Tagged) → n < length xs → x ≡ get_or xs n x → xs ≡ take n xs ++ x ∷ drop (n + 1) xs
-split_at xs n x h e =
-    sym (take-append-drop (n + 1) xs)
-    ∙ ap (λ ys. ys ++ drop (n + 1) xs) (longer_at xs n x h e)
-    ∙ append_assoc (take n xs) (x ∷ []) (drop (n + 1) xs)
+pub key_at : (xs path : List Tagged) (n : ℕ) (t : Tagged) → xs ≡ path → n < length xs → t ≡ get_or xs n t → IsKeyAt path n t
+key_at xs path n t same h e = subst (λ (ps : List Tagged). IsKeyAt ps n t) same (record {
+  longer = longer;
+  split = sym (take-append-drop (n + 1) xs) ∙ ap (λ ys. ys ++ drop (n + 1) xs) longer ∙ append_assoc (take n xs) (t ∷ []) (drop (n + 1) xs);
+})
+  where
+    longer : take (n + 1) xs ≡ take n xs ++ t ∷ []
+    longer = take_more xs n t h ∙ ap (λ (y : Tagged). take n xs ++ y ∷ []) (sym e)
 
 -- ---- the order of the two keys of an insert
 

@@ -140,9 +140,13 @@ no_items (x ∷ xs) b e f = let none : length (x ∷ xs) ≡ 0 = eqb-true (lengt
 pub passed_all : (all : List Key) (c d : Context) (x : Differences) → AllByRecursion (Contains all) (all_keys c) → OnlyLoses c d → PassedBack all [] c d x → IsDifference c d x
 passed_all all c d x keys h p = all_among all c d x (λ k e. other_key k all c keys e d h) (subst (λ ks. IsDifferenceAmong ks c d x) (sym p.is) p.among)
 
-pub lent_last : {X : Type 0} (ls : List (Bor Key × X)) (l : Bor Key × X) → keys_lent (ls ++ l ∷ []) ≡ keys_lent ls ++ l.0.now ∷ []
+lent_last : {X : Type 0} (ls : List (Bor Key × X)) (l : Bor Key × X) → keys_lent (ls ++ l ∷ []) ≡ keys_lent ls ++ l.0.now ∷ []
 lent_last [] l = refl
 lent_last (x ∷ xs) l = ap (λ ks. x.0.now ∷ ks) (lent_last xs l)
+
+-- the last one was taken
+pub lent_popped : {X : Type 0} (old new : List (Bor Key × X)) (o : Option (Bor Key × X)) (l : Bor Key × X) → o ≡ Some l → old ≡ new ++ option_to_list o → keys_lent old ≡ keys_lent new ++ l.0.now ∷ []
+lent_popped old new o l e f = ap keys_lent (f ∙ ap (λ x. new ++ option_to_list x) e) ∙ lent_last new l
 
 -- nothing was left where nothing came
 pub emptied : {X : Type 0} (old new : List X) (o : Option X) → o ≡ None → old ≡ new ++ option_to_list o → (0 < length old → is_some o ≡ true) → old ≡ []

@@ -1,7 +1,6 @@
 use Rattle.std.proofs.Common.{sym, ◌∙◌, ap, subst}
 use Rattle.jc_rules.specs.Context.{next}
 use Rattle.jc_meaning.specs.Seen.{seen}
-use Rattle.jc_effects.specs.Parts.{IsNameOf}
 use Rattle.jc_effects.proofs.PartsInsertLemmas.{WalkedTo, walk_begins, walk_goes, walk_ends, walk_nearer}
 use Rattle.jc_effects.proofs.along.key_before.Goals as goal
 
@@ -11,10 +10,6 @@ loop-id-init g c =
     let old = (g.S.TreeStore.tree c.args.change.now.old.now).now in
     let new = (g.S.TreeStore.tree c.args.change.now.new.now).now in
     subst (WalkedTo o (seen o.cursor.path old)) (sym c.in_ok-key.ensures) (walk_begins o old new c.requires.changed c.requires.inserts)
-
-pub link_in-requires : goal.link_in-requires
-link_in-requires g c =
-    subst (λ p. IsNameOf (g.S.TreeStore.names c.args.change.now.old.now) (g.S.TreeStore.tree c.args.change.now.old.now) p c.args.contexts.old) (sym c.as_slice-path.ensures.keys) c.requires.contexts.old
 
 pub loop-id-smaller : goal.loop-id-smaller
 loop-id-smaller g c =

@@ -3,18 +3,10 @@ use Rattle.std.proofs.lemmas.Result.{IfOk-weaker}
 use Rattle.jc_rules.specs.declared.key.Tagged.{Tagged}
 use Rattle.jc_meaning.specs.Seen.{seen}
 use Rattle.jc_effects.specs.Difference.{own_difference}
-use Rattle.jc_effects.specs.Parts.{IsNameOf, own_seen}
+use Rattle.jc_effects.specs.Parts.{own_seen}
 use Rattle.jc_effects.proofs.PartsOwnLemmas.{target_own}
 use Rattle.jc_effects.proofs.PartsTargetLemmas.{touched_at_target, uncleared_by}
 use Rattle.jc_effects.proofs.along.own_at_target.Goals as goal
-
-pub entries_at-was-requires : goal.entries_at-was-requires
-entries_at-was-requires g c =
-    subst (λ (p : List Tagged). IsNameOf (g.S.TreeStore.names c.args.change.now.old.now) (g.S.TreeStore.tree c.args.change.now.old.now) p c.args.contexts.old) (sym c.as_slice-path.ensures.keys) c.requires.contexts.old
-
-pub entries_at-now-requires : goal.entries_at-now-requires
-entries_at-now-requires g c =
-    subst (λ (p : List Tagged). IsNameOf (g.S.TreeStore.names c.args.change.now.new.now) (g.S.TreeStore.tree c.args.change.now.new.now) p c.args.contexts.new) (sym c.as_slice-path.ensures.keys) c.requires.contexts.new
 
 pub returns : goal.returns
 returns g c =

@@ -1,20 +1,10 @@
-use Rattle.std.proofs.Common.{List, refl, sym, ◌∙◌, ap, subst}
-use Rattle.jc_rules.specs.declared.key.Tagged.{Tagged}
+use Rattle.std.proofs.Common.{refl, ◌∙◌, ap}
 use Rattle.jc_rules.specs.Context.{next}
 use Rattle.jc_meaning.specs.Seen.{seen}
 use Rattle.jc_effects.specs.Difference.{link_changed}
-use Rattle.jc_effects.specs.Parts.{IsNameOf}
 use Rattle.jc_effects.proofs.PartsOwnLemmas.{link_own}
 use Rattle.jc_effects.proofs.PartsTargetLemmas.{untouched_at_link, uncleared_at_link, unwritten_at_link, unpassed_at_link}
 use Rattle.jc_effects.proofs.along.own_linked.Goals as goal
-
-pub link_in-was-requires : goal.link_in-was-requires
-link_in-was-requires g c =
-    subst (λ (p : List Tagged). IsNameOf (g.S.TreeStore.names c.args.change.now.old.now) (g.S.TreeStore.tree c.args.change.now.old.now) p c.args.contexts.old) (sym c.as_slice-path.ensures.keys) c.requires.contexts.old
-
-pub link_in-now-requires : goal.link_in-now-requires
-link_in-now-requires g c =
-    subst (λ (p : List Tagged). IsNameOf (g.S.TreeStore.names c.args.change.now.new.now) (g.S.TreeStore.tree c.args.change.now.new.now) p c.args.contexts.new) (sym c.as_slice-path.ensures.keys) c.requires.contexts.new
 
 pub returns : goal.returns
 returns g c =

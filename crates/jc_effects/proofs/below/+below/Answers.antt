@@ -1,17 +1,16 @@
-use Rattle.std.proofs.Common.{◌≡◌, ◌<◌, Contains, option_to_list, List, [], ◌∷◌, ◌++◌, sym, ◌∙◌, ap, subst, arith}
+use Rattle.std.proofs.Common.{◌≡◌, ◌<◌, Contains, List, [], ◌∷◌, ◌++◌, sym, ◌∙◌, ap, subst, arith}
 use Rattle.std.specs.List.{AllByRecursion}
 use Rattle.std.proofs.lemmas.Result.{IfOk-weaker}
 use Rattle.jc_rules.specs.declared.key.Key.{Key}
-use Rattle.jc_rules.specs.declared.key.Tagged.{Tagged}
 use Rattle.jc_rules.specs.declared.key.Tagged.TheVariants.{MapT, ListT}
 use Rattle.jc_tree.specs.Tree.{here, all_keys, keys_lent}
 use Rattle.jc_tree.specs.Nested.{nested}
 use Rattle.jc_meaning.specs.Seen.{seen, ids_at}
 use Rattle.jc_meaning.proofs.ClearingEffectsLemmas.{seen_append}
-use Rattle.jc_effects.specs.Difference.{OwnDifference, below, IsDifference}
-use Rattle.jc_effects.specs.Parts.{IsNameOf, differences_of}
+use Rattle.jc_effects.specs.Difference.{OwnDifference, own_difference, below, IsDifference}
+use Rattle.jc_effects.specs.Parts.{IsNameOf, own_seen, differences_of}
 use Rattle.jc_effects.proofs.PartsAlongLemmas.{empty_is, lost_place, kept_place, below_longer, longer_below}
-use Rattle.jc_effects.proofs.PartsLossesLemmas.{PassedBack, none_new, loses_below, passed_none, passed_one, passed_empty, no_items, passed_all, lent_last, emptied}
+use Rattle.jc_effects.proofs.PartsLossesLemmas.{PassedBack, none_new, loses_below, passed_one, passed_empty, no_items, passed_all, lent_popped, emptied}
 use Rattle.jc_effects.proofs.PartsReadLemmas.{IsNew, new_inside, seen_here, smaller_below, nested_at, named_nested}
 use Rattle.jc_effects.proofs.below.+below.Goals as goal
 
@@ -54,7 +53,7 @@ place_below-returns-then-is_empty g t c at contexts losses =
     let new = seen at (g.S.TreeStore.tree c.args.change.now.new.now).now in
     let k = c.args.key.now in
     let lost = c.in_ok-own.own.lost in
-    let own = c.in_ok-own.ensures at contexts (losses.losses [] k) in
+    let own : own_seen k c.in_ok-own.own ≡ own_difference k old new = c.in_ok-own.ensures at contexts (losses.losses [] k) in
     kept_place k old new lost.items (differences_of c.args.rest) losses (ap (λ (d : OwnDifference). d.lost) own) (empty_is lost.items _ (omega (arith, lost.ok.0)) (sym c.is_empty.ensures ∙ c.if-is_empty.true))
 
 pub place_below-returns : goal.place_below-returns
@@ -71,9 +70,6 @@ place_below-returns g t c at contexts losses =
     (λ e f ks later among. lost_place k old new c.in_ok-own.own (differences_of c.in_ok-map.map) (differences_of c.in_ok-list.list) (differences_of c.args.rest) (differences_of e) losses own maps lists f ks later among)
     c.with_place.ensures
 
-pub places_below-loop-lent-init : goal.places_below-loop-lent-init
-places_below-loop-lent-init g t c at contexts losses = passed_none _ _ _
-
 -- nothing was at the key
 pub places_below-loop-lent-preserved-then-is_empty : goal.places_below-loop-lent-preserved-then-is_empty
 places_below-loop-lent-preserved-then-is_empty g t c at contexts losses =
@@ -82,8 +78,7 @@ places_below-loop-lent-preserved-then-is_empty g t c at contexts losses =
     let all = keys_lent c.in_ok-keys.keys.items in
     let rest = c.pop.new.self.items in
     let k = c.in-Some.lent.0.now in
-    let was : c.loop-lent.keys.items ≡ rest ++ c.in-Some.lent ∷ [] = c.pop.ensures.items ∙ ap (λ o. rest ++ option_to_list o) c.in-Some.is in
-    let left : keys_lent c.loop-lent.keys.items ≡ keys_lent rest ++ k ∷ [] = ap keys_lent was ∙ lent_last rest c.in-Some.lent in
+    let left : keys_lent c.loop-lent.keys.items ≡ keys_lent rest ++ k ∷ [] = lent_popped c.loop-lent.keys.items rest c.pop.result c.in-Some.lent c.in-Some.is c.pop.ensures.items in
     let passed = subst (λ (ks : List Key). PassedBack all ks old new (differences_of c.loop-lent.effects)) left (c.loop-lent.invariant at contexts losses) in
     let none : ids_at k old ≡ [] = sym (c.ids_in.ensures.ids at contexts.old) ∙ no_items c.ids_in.result.now c.is_empty.result c.is_empty.ensures c.if-is_empty.true in
     passed_empty all (keys_lent rest) k old new (differences_of c.loop-lent.effects) c.in_ok-keys.ensures.rising passed losses none
@@ -95,8 +90,7 @@ places_below-loop-lent-preserved g t c at contexts losses =
     let all = keys_lent c.in_ok-keys.keys.items in
     let rest = c.pop.new.self.items in
     let k = c.in-Some.lent.0.now in
-    let was : c.loop-lent.keys.items ≡ rest ++ c.in-Some.lent ∷ [] = c.pop.ensures.items ∙ ap (λ o. rest ++ option_to_list o) c.in-Some.is in
-    let left : keys_lent c.loop-lent.keys.items ≡ keys_lent rest ++ k ∷ [] = ap keys_lent was ∙ lent_last rest c.in-Some.lent in
+    let left : keys_lent c.loop-lent.keys.items ≡ keys_lent rest ++ k ∷ [] = lent_popped c.loop-lent.keys.items rest c.pop.result c.in-Some.lent c.in-Some.is c.pop.ensures.items in
     let passed = subst (λ (ks : List Key). PassedBack all ks old new (differences_of c.loop-lent.effects)) left (c.loop-lent.invariant at contexts losses) in
     passed_one all (keys_lent rest) k old new (differences_of c.loop-lent.effects) (differences_of c.in_ok-effects.effects) c.in_ok-keys.ensures.rising passed (c.in_ok-effects.ensures at contexts losses)
 
