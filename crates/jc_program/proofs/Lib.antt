@@ -3,7 +3,6 @@ pub mod JournalsLemmas
 pub mod JournalResultLemmas
 pub mod ReadsScenarioLemmas
 pub mod ViewOutputLemmas
-pub mod CommandCountLemmas
 pub mod ReplicaLinesLemmas
 pub mod RunOutLemmas
 pub mod ViewTextLemmas

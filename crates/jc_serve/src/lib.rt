@@ -12,3 +12,4 @@ mod subjects;
 mod texts;
 
 pub use serving::{ServeFault, serve};
+pub use subjects::command_count;

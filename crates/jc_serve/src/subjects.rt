@@ -177,7 +177,7 @@ pub(crate) fn subject_of(alloc: Global, text: &[u8]) -> Result<Subject, AllocErr
 // ---- answers
 
 /// How many commands all scripts have.
-fn command_count(scripts: &[Vec<Cmd>]) -> usize
+pub fn command_count(scripts: &[Vec<Cmd>]) -> usize
     requires few { length scripts.now ≤ MAX_REPLICAS }
     requires short { All IsScriptWellFormed (scripts_view scripts.now) }
     ensures { result ≡ sum_by (λ script. length script) (scripts_view scripts.now) }

@@ -3,7 +3,7 @@ use Rattle.jc_scenario.specs.Views.{scenario_view, scripts_view}
 use Rattle.jc_runner.specs.Reports.{IsReportedFault}
 use Rattle.jc_runner.specs.declared.run.RunFault.{RunFault}
 use Rattle.std.specs.Prelude.{IfErr}
-use Rattle.jc_program.proofs.CommandCountLemmas.{as_many}
+use Rattle.jc_serve.proofs.CommandCountLemmas.{as_many}
 use Rattle.jc_program.proofs.recording.run_meeting.Goals as goal
 
 pub returns-clause-fault : goal.returns-clause-fault
