@@ -1,5 +1,5 @@
 -- About specs/Dump: no dump has a float, so its text is compact JSON.
-use Rattle.std.proofs.Common.{◌≡◌, ℕ, List, [], ◌∷◌, ◌++◌, map, codes, false, refl}
+use Rattle.std.proofs.Common.{◌≡◌, ℕ, List, [], ◌∷◌, ◌++◌, map, Option, None, Some, codes, false, refl}
 use Rattle.serde_json.specs.Data.{Data}
 use Rattle.serde_json.specs.Written.{has_float}
 use Rattle.jc_rules.specs.declared.id.Id.{Id}
@@ -8,11 +8,11 @@ use Rattle.jc_rules.specs.declared.value.Value.{Value}
 use Rattle.jc_rules.specs.Context.{Context}
 use Rattle.jc_rules.specs.State.{Bound, ACursor, Names, Pairs}
 use Rattle.jc_json.specs.Json.{key_text, tagged_text, object_of, texts_data}
-use Rattle.jc_json.proofs.JsonFloatsLemmas.{object_float, all-map, texts_float, ids_float, value_float, context_float}
+use Rattle.jc_json.proofs.JsonFloatsLemmas.{HaveNone, object_float, all-map, texts_float, ids_float, value_float, context_float}
 use Rattle.jc_cursor.specs.Bounds.{vars_of}
 use Rattle.jc_dump.specs.declared.dump.Shown.{Shown}
 use Rattle.jc_dump.specs.Dump.{cursor_data, pairs_data, bound_data, var_member, vars_data}
-use Rattle.jc_dump.specs.DumpParts.{shown_members, shown_briefly}
+use Rattle.jc_dump.specs.DumpParts.{shown_members, tree_members}
 
 pairs_float : (names : List (List ℕ)) (pairs : List (Id × Value)) → has_float (pairs_data names pairs) ≡ false
 pairs_float names [] = refl
@@ -32,14 +32,15 @@ bound_float names (Pairs pairs) = one_float (codes "values") (pairs_data names p
 vars_float : (names : List (List ℕ)) (vars : List (List ℕ × Bound)) → has_float (vars_data names vars) ≡ false
 vars_float names vars = object_float (map (var_member names) vars) (all-map (var_member names) (λ e. bound_float names e.1) vars)
 
-pub shown_float : (names : List (List ℕ)) (shown : Shown) (tree : Context) → has_float (object_of (shown_members names shown tree)) ≡ false
+pub shown_float : (names : List (List ℕ)) (shown : Shown) (tree : Option Context) → has_float (object_of (shown_members names shown tree)) ≡ false
 unfolding shown_members
 shown_float names shown tree =
     object_float (shown_members names shown tree)
-    (refl, (refl, (refl, (ids_float names shown.ops.items, (ids_float names shown.queue.items, (ids_float names shown.recv.items, (ids_float names shown.send.items, (context_float names tree, (vars_float names (vars_of shown.vars.now.entries), tt)))))))))
+    (refl, (refl, (refl, (ids_float names shown.ops.items, (ids_float names shown.queue.items, (ids_float names shown.recv.items, (ids_float names shown.send.items, others tree)))))))
+  where
+    vars : has_float (vars_data names (vars_of shown.vars.now.entries)) ≡ false
+    vars = vars_float names (vars_of shown.vars.now.entries)
 
-pub briefly_float : (names : List (List ℕ)) (shown : Shown) → has_float (object_of (shown_briefly names shown)) ≡ false
-unfolding shown_briefly
-briefly_float names shown =
-    object_float (shown_briefly names shown)
-    (refl, (refl, (refl, (ids_float names shown.ops.items, (ids_float names shown.queue.items, (ids_float names shown.recv.items, (ids_float names shown.send.items, (vars_float names (vars_of shown.vars.now.entries), tt))))))))
+    others : (tree : Option Context) → HaveNone (tree_members names tree ++ (codes "vars", vars_data names (vars_of shown.vars.now.entries)) ∷ [])
+    others None = (vars, tt)
+    others (Some c) = (context_float names c, (vars, tt))

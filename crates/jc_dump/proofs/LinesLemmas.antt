@@ -1,13 +1,11 @@
 -- About specs/Lines: the line of a stuck event, from its refusal, its key and its event.
-use Rattle.std.proofs.Common.{◌≡◌, ℕ, List, [], ◌++◌, Some, None, codes, decimal, append-nil, append_assoc, refl, sym, ◌∙◌, ap}
-use Rattle.jc_rules.specs.declared.key.Tagged.{Tagged}
+use Rattle.std.proofs.Common.{◌≡◌, ℕ, List, [], ◌++◌, None, codes, decimal, append-nil, refl, sym, ◌∙◌, ap}
 use Rattle.jc_rules.specs.declared.operation.Event.{Event}
 use Rattle.jc_rules.specs.Refusals.{refusal_number, refusal_name}
 use Rattle.jc_rules.specs.Refused.{Cause, because, no_node, refusal_of}
 use Rattle.jc_printer.specs.Canon.{canon_event}
 use Rattle.jc_network.specs.declared.fault.Stuck.{Stuck}
 use Rattle.jc_network.specs.Steps.{stuck_for, key_of_event}
-use Rattle.jc_json.specs.Json.{tagged_text}
 use Rattle.jc_dump.specs.Lines.{absent_text, stuck_text}
 
 absent_none : (names : List (List ℕ)) (why : Cause) → key_of_event why ≡ None → absent_text names why ≡ []

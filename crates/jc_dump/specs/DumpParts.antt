@@ -1,5 +1,5 @@
 -- The parts of which the code makes a dump, and how they are sent, for the contracts of dump.rt and vars.rt.
-use Rattle.std.specs.Prelude.{◌≡◌, ℕ, List, [], ◌∷◌, length, codes}
+use Rattle.std.specs.Prelude.{◌≡◌, ℕ, List, [], ◌∷◌, ◌++◌, Option, None, Some, length, codes}
 use Rattle.std.specs.Borrow.{Bor}
 use Rattle.serde.specs.Event.{Log, Sends, Then, field_key}
 use Rattle.serde.specs.declared.name.Case.TheVariants.{AsIs}
@@ -16,8 +16,13 @@ use Rattle.jc_dump.specs.Dump.{bound_data, vars_data, ids_of_dumped}
 abbrev pub bound_shown : List (List ℕ) → Bor BoundInMemory → Data
 bound_shown names b = bound_data names (bound_of b.now)
 
+-- the tree's member, if there is a tree
+abbrev pub tree_members : List (List ℕ) → Option Context → List (List ℕ × Data)
+tree_members names None = []
+tree_members names (Some tree) = (codes "tree", context_data names tree) ∷ []
+
 -- the members of a dump, from the parts in memory
-unfoldable pub shown_members : List (List ℕ) → Shown → Context → List (List ℕ × Data)
+unfoldable pub shown_members : List (List ℕ) → Shown → Option Context → List (List ℕ × Data)
 shown_members names shown tree =
     (codes "acted", boolean shown.acted)
     ∷ (codes "left", number (unsigned shown.left))
@@ -26,21 +31,8 @@ shown_members names shown tree =
     ∷ (codes "queue", ids_data names shown.queue.items)
     ∷ (codes "recv", ids_data names shown.recv.items)
     ∷ (codes "send", ids_data names shown.send.items)
-    ∷ (codes "tree", context_data names tree)
-    ∷ (codes "vars", vars_data names (vars_of shown.vars.now.entries))
-    ∷ []
-
--- the members without the tree, from the parts in memory
-unfoldable pub shown_briefly : List (List ℕ) → Shown → List (List ℕ × Data)
-shown_briefly names shown =
-    (codes "acted", boolean shown.acted)
-    ∷ (codes "left", number (unsigned shown.left))
-    ∷ (codes "name", string shown.name.now)
-    ∷ (codes "ops", ids_data names shown.ops.items)
-    ∷ (codes "queue", ids_data names shown.queue.items)
-    ∷ (codes "recv", ids_data names shown.recv.items)
-    ∷ (codes "send", ids_data names shown.send.items)
-    ∷ (codes "vars", vars_data names (vars_of shown.vars.now.entries))
+    ∷ tree_members names tree
+    ++ (codes "vars", vars_data names (vars_of shown.vars.now.entries))
     ∷ []
 
 -- a member is sent: its name, then its value

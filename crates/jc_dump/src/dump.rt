@@ -1,14 +1,12 @@
 //! The dump of a replica's state as one line of JSON, sent to the writer member by member. replica.rt calls it.
 
-ghost use Rattle.std.specs.Prelude.{◌≡◌, Ok, IfOk, OnOk, string_bytes};
+ghost use Rattle.std.specs.Prelude.{◌≡◌, Ok, IfOk, OnOk, option_map, option_copied, string_bytes};
 ghost use Rattle.serde.specs.Event.{Sends, Then, field_key};
 ghost use Rattle.serde.specs.declared.name.Case.TheVariants.{AsIs};
 ghost use Rattle.serde_json.specs.Events.{SendsValue};
-ghost use Rattle.jc_rules.specs.Context.{Context};
-ghost use Rattle.jc_rules.specs.State.{State};
+ghost use Rattle.serde_json.specs.Written.{compact_text};
 ghost use Rattle.jc_json.specs.Json.{ids_data, object_of};
-ghost use Rattle.jc_dump.specs.Dump.{dump_line, brief_text};
-ghost use Rattle.jc_dump.specs.DumpParts.{shown_members, shown_briefly, SendsMember, SendsBeforeTree, HasParts};
+ghost use Rattle.jc_dump.specs.DumpParts.{shown_members, SendsMember, SendsBeforeTree};
 
 use crate::vars::send_vars;
 use jc_cursor::Bound;
@@ -39,53 +37,33 @@ pub(crate) struct Shown<'a> {
     pub(crate) vars: &'a BTreeMap<Text, Bound>,
 }
 
-/// A replica's dump, which `serde` sends to a writer.
+/// A replica's dump, without its tree where there is no store. `serde` sends it to a writer.
 #[derive(Drop)]
 struct Dump<'a, S> {
     alloc: Global,
     names: &'a [Text],
     shown: &'a Shown<'a>,
-    store: &'a S,
+    store: Option<&'a S>,
 }
 
 impl<S: TreeStore> Described for Dump<'_, S> {
-    ghost writes = { λ d. SendsValue (object_of (shown_members d.names.now d.shown.now (S.tree d.store.now).now)) };
+    ghost writes = { λ d. SendsValue (object_of
+        (shown_members d.names.now d.shown.now (option_map (λ s. (S.tree s).now) (option_copied d.store)))) };
 }
 
 impl<S: TreeStore> Serialize for Dump<'_, S> {
     /// Sends the members in the order of their names.
     fn serialize<W: Serializer>(&self, out: &mut W) -> Result<(), W::Error> {
-        out.begin_map(Some(9))?;
+        out.begin_map(Some(8 + usize::from(self.store.is_some())))?;
         send_before_tree(self.alloc, self.names, self.shown, out)?;
-        let tree = Tree {
-            alloc: self.alloc,
-            names: self.names,
-            store: self.store,
-        };
-        send_member("tree", &tree, out)?;
-        out.key("vars")?;
-        send_vars(self.alloc, self.names, self.shown.vars, out)?;
-        out.end_map()
-    }
-}
-
-/// A replica's dump without its tree, which `serde` sends to a writer.
-#[derive(Drop)]
-struct Brief<'a> {
-    alloc: Global,
-    names: &'a [Text],
-    shown: &'a Shown<'a>,
-}
-
-impl Described for Brief<'_> {
-    ghost writes = { λ d. SendsValue (object_of (shown_briefly d.names.now d.shown.now)) };
-}
-
-impl Serialize for Brief<'_> {
-    /// Sends the members in the order of their names.
-    fn serialize<W: Serializer>(&self, out: &mut W) -> Result<(), W::Error> {
-        out.begin_map(Some(8))?;
-        send_before_tree(self.alloc, self.names, self.shown, out)?;
+        if let Some(store) = self.store {
+            let tree = Tree {
+                alloc: self.alloc,
+                names: self.names,
+                store,
+            };
+            send_member("tree", &tree, out)?;
+        }
         out.key("vars")?;
         send_vars(self.alloc, self.names, self.shown.vars, out)?;
         out.end_map()
@@ -147,16 +125,15 @@ pub(crate) fn unless_refused(text: Result<String, Error>) -> Result<String, Allo
     }
 }
 
-/// Returns the dump line of a replica, with its line feed.
-pub(crate) fn dump_line_of<S: TreeStore>(
+/// Returns the dump of a replica, without its tree where there is no store, and without a line feed.
+pub(crate) fn dump_text<S: TreeStore>(
     alloc: Global,
     names: &[Text],
     shown: &Shown,
-    store: &S,
+    store: Option<&S>,
 ) -> Result<String, AllocError>
-    ensures { IfOk result (λ s.
-        (A : State) → HasParts A shown.now (S.tree store.now).now
-        → string_bytes s ≡ dump_line names.now shown.now.name.now A) }
+    ensures { IfOk result (λ text. string_bytes text ≡ compact_text (object_of
+        (shown_members names.now shown.now (option_map (λ s. (S.tree s).now) (option_copied store.entry))))) }
 {
     let dump = Dump {
         alloc,
@@ -164,25 +141,5 @@ pub(crate) fn dump_line_of<S: TreeStore>(
         shown,
         store,
     };
-    let mut line = unless_refused(serde_json::to_string(alloc, &dump))?;
-    line.push_str("\n")?;
-    Ok(line)
-}
-
-/// Returns the dump of a replica without its tree, and without a line feed.
-pub(crate) fn brief_text_of(
-    alloc: Global,
-    names: &[Text],
-    shown: &Shown,
-) -> Result<String, AllocError>
-    ensures { IfOk result (λ s.
-        (A : State) (tree : Context) → HasParts A shown.now tree
-        → string_bytes s ≡ brief_text names.now shown.now.name.now A) }
-{
-    let brief = Brief {
-        alloc,
-        names,
-        shown,
-    };
-    unless_refused(serde_json::to_string(alloc, &brief))
+    unless_refused(serde_json::to_string(alloc, &dump))
 }

@@ -7,7 +7,7 @@ ghost use Rattle.jc_network.specs.declared.fault.CompareFault.TheVariants as E;
 ghost use Rattle.jc_dump.specs.Dump.{ids_of_dumped, dump_line, brief_text};
 ghost use Rattle.jc_dump.specs.DumpParts.{HasParts};
 
-use crate::dump::{Shown, brief_text_of, dump_line_of};
+use crate::dump::{Shown, dump_text};
 use jc_network::{CompareFault, Net};
 use jc_rules::{Id, Op, name_at};
 use jc_tree::{ArenaTree, TreeStore};
@@ -62,7 +62,9 @@ pub fn dump_replica(alloc: Global, net: &Net, p: u16) -> Result<String, CompareF
     ensures missing { IsErrOf result E.NoSuchReplica ↔ length net.now.history.now.states ≤ p }
 {
     let (shown, tree) = shown_of(alloc, net, p)?;
-    Ok(dump_line_of(alloc, net.names(), &shown, tree)?)
+    let mut line = dump_text(alloc, net.names(), &shown, Some(tree))?;
+    line.push_str("\n")?;
+    Ok(line)
 }
 
 /// Returns the dump of the network's replica `p` without its tree, and without a line feed. It is refused as
@@ -74,5 +76,5 @@ pub fn brief_replica(alloc: Global, net: &Net, p: u16) -> Result<String, Compare
     ensures missing { IsErrOf result E.NoSuchReplica ↔ length net.now.history.now.states ≤ p }
 {
     let (shown, _) = shown_of(alloc, net, p)?;
-    Ok(brief_text_of(alloc, net.names(), &shown)?)
+    Ok(dump_text(alloc, net.names(), &shown, None::<&ArenaTree>)?)
 }
