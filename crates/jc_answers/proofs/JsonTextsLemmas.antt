@@ -1,11 +1,8 @@
 -- Of `JsonTexts` and `Parts`: objects and arrays with one part more.
-use Rattle.std.proofs.Common.{◌≡◌, ℕ, ◌+◌, ◌<◌, ◌≤◌, Bool, true, List, [], ◌∷◌, ◌++◌, length, map, take, get_or, Result, Ok, Err, OnOk, is_ok, if◌then◌else◌, refl, ap, sym, ◌∙◌, arith, append_assoc, append-nil, codes}
-use Rattle.std.proofs.lemmas.Grind.{flat_map-append}
-use Rattle.std.proofs.lemmas.List.{take_more, take_all}
+use Rattle.std.proofs.Common.{◌≡◌, ℕ, ◌<◌, ◌≤◌, Bool, true, List, [], ◌∷◌, ◌++◌, length, map, Result, Ok, Err, OnOk, is_ok, if◌then◌else◌, refl, ap, sym, ◌∙◌, arith, append_assoc, codes}
 use Rattle.jc_answers.specs.declared.arrays.ArrayText.{ArrayText}
-use Rattle.jc_answers.specs.declared.objects.Member.{Member}
 use Rattle.jc_answers.specs.JsonTexts.{NamedText, with_commas, member_text}
-use Rattle.jc_answers.specs.Parts.{object_begun, has_some, comma_after, HasItems, member_of, members_of}
+use Rattle.jc_answers.specs.Parts.{object_begun, has_some, comma_after, HasItems}
 
 commas_more : (t : List ℕ) (ts : List (List ℕ)) (u : List ℕ) → with_commas (t ∷ (ts ++ u ∷ [])) ≡ with_commas (t ∷ ts) ++ (codes "," ++ u)
 commas_more t [] u = refl
@@ -39,15 +36,6 @@ first_member old [] m short is = ap (λ t. t ++ member_text m) is
 first_member old (x ∷ ms) m short is =
     let size = ap length (is ∙ (two_bytes x ms).1) in
     absurd (omega (arith, short, size))
-
-pub members_more : (ms : List Member) (i : ℕ) (m : Member) → i < length ms → members_of (take i ms) ++ member_of (get_or ms i m) ≡ members_of (take (i + 1) ms)
-members_more ms i m lt =
-    sym (
-    ap members_of (take_more ms i m lt) ∙ flat_map-append member_of (take i ms) (get_or ms i m ∷ [])
-    ∙ ap (λ ns. members_of (take i ms) ++ ns) (append-nil (member_of (get_or ms i m))))
-
-pub all_members : (ms : List Member) (n : ℕ) → length ms ≤ n → members_of (take n ms) ≡ members_of ms
-all_members ms n enough = ap members_of (take_all n ms enough)
 
 -- ---- arrays
 

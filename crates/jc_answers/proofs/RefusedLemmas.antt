@@ -9,15 +9,9 @@ use Rattle.jc_answers.specs.declared.refusals.Extent.{Extent}
 use Rattle.jc_answers.specs.declared.refusals.Extent.TheVariants.{Token, Escape, Character, Byte}
 use Rattle.jc_answers.specs.JsonTexts.{NamedText, number_member, string_member}
 use Rattle.jc_answers.specs.Parts.{member_of, members_of}
-use Rattle.jc_answers.specs.Refusals.{refused_object, refusal_members, line_behind, column_behind, extent_of, EndsWith, EndsAt, placed_members, IsRefusedTextWith, IsRefusedText}
+use Rattle.jc_answers.specs.Refusals.{refused_object, line_behind, column_behind, extent_of, EndsWith, EndsAt, placed_members, IsRefusedTextWith, IsRefusedText}
 
 -- ---- members
-
-pub one_member : (m : Member) (ns : List NamedText) → member_of m ≡ ns → members_of (m ∷ []) ≡ ns ++ []
-one_member m ns is = ap (λ xs. xs ++ []) is
-
-pub two_members : (m n : Member) (refusal : Refusal) → member_of m ≡ string_member (codes "name") (refusal_name refusal) → member_of n ≡ number_member (codes "number") (refusal_number refusal) → members_of (m ∷ n ∷ []) ≡ refusal_members refusal
-two_members m n refusal name number = λ i. name i ++ (number i ++ [])
 
 pub seven_members : (a b m c d e f : Member) (text : List ℕ) (refusal : Refusal) (at stop : ℕ)
     → member_of a ≡ number_member (codes "column") (column_behind (take at text))
@@ -49,9 +43,6 @@ one_end refusal text at p q (inl a) (inl b) = a.1 ∙ sym b.1
 one_end refusal text at p q (inl a) (inr b) = absurd (omega (arith, a.0, b.0))
 one_end refusal text at p q (inr a) (inl b) = absurd (omega (arith, a.0, b.0))
 one_end refusal text at p q (inr a) (inr b) = extent_ends (extent_of refusal at) text at p q a.1 b.1
-
-pub with_extent : (extent other : Extent) (text : List ℕ) (at stop : ℕ) → extent ≡ other → EndsWith extent text at stop → EndsWith other text at stop
-with_extent extent other text at stop is h = subst (λ (e : Extent). EndsWith e text at stop) is h
 
 -- ---- answers
 

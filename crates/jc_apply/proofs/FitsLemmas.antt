@@ -1,5 +1,5 @@
 -- About Fits: what fits is refused for nothing.
-use Rattle.std.proofs.Common.{◌≡◌, ◌≢◌, List, [], ◌∷◌, Option, Some, None, refl, sym, ◌∙◌, ap, subst, arith, inl, inr}
+use Rattle.std.proofs.Common.{◌≡◌, ◌≢◌, List, ◌∷◌, Option, Some, None, refl, sym, ◌∙◌, ap, subst, inl, inr}
 use Rattle.std.specs.Prelude.{◌⊎◌}
 use Rattle.jc_rules.specs.declared.id.Id.{Id}
 use Rattle.jc_rules.specs.declared.key.Key.{Key}
@@ -20,6 +20,7 @@ use Rattle.jc_rules.specs.Refused.{Cause, Refused, first_expr, in_first, not_a_c
 use Rattle.jc_tree.specs.ChainedBelow.{AreChainedBelow}
 use Rattle.jc_tree.proofs.ChainedBelowLemmas.{map_below, list_below, below-chained, below-list, no_links}
 use Rattle.jc_tree.proofs.ChainedLeadsLemmas.{leads_from, leads_on, leads_next}
+use Rattle.jc_tree.proofs.ChainedLemmas.{new_list_chained}
 use Rattle.jc_apply.specs.Fits.{Fits, FitsHere, InChild, content_or_new, child_context}
 use Rattle.jc_apply.proofs.FitsAnsweredLemmas.{child_is}
 use Rattle.jc_rules.proofs.ContextLemmas.{no_node}
@@ -34,9 +35,6 @@ shaped_below c (inr h) = below-list c h
 
 empty_chained : IsChained empty
 empty_chained = (refl, tt, tt)
-
-new_list_chained : IsChainedList empty_list
-new_list_chained = (([], record { leads = refl; distinct = (tt, tt); no_other = ((0, omega arith, refl), tt) }), tt, tt)
 
 -- so is each child, there or new
 child_shaped : (t : Tagged) (c d : Context) → IsShaped c → child_context t c ≡ Some d → IsShaped d

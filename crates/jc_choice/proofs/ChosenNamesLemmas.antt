@@ -22,7 +22,7 @@ abbrev pub IsNamedChoice : ℕ → Option (Event × Phase) → Type 0
 IsNamedChoice n None = Unit {0}
 IsNamedChoice n (Some c) = AreNamed c.0 n
 
-below : (a b : ℕ) → nat_lt a b ≡ true → a < b
+pub below : (a b : ℕ) → nat_lt a b ≡ true → a < b
 below a b h = search (rules, h)
 
 module _ (n p : ℕ) (low : p < n) where

@@ -37,12 +37,9 @@ abbrev IsFit : ℕ → Event → Type 0
 IsFit n e = AreNamed e n × IsCounterBelow e
 
 abbrev id_or : Id → Event → Id
-id_or i (E.Exec p) = i
-id_or i (E.Send p) = i
-id_or i (E.Recv p q) = i
 id_or i (E.Take p q j) = j
 id_or i (E.Apply p j) = j
-id_or i (E.Done p) = i
+id_or i _ = i
 
 -- what is applied was received
 received_op : (A B : State) (p : ℕ) (i : Id) (read : List Op) → Did A (E.Apply p i) read B → (o : Op) × (op_of i A.recv ≡ Some o)

@@ -1,5 +1,5 @@
 -- About Bare: what clearing leaves as it is decides chains, keys and depths.
-use Rattle.std.proofs.Common.{◌≡◌, ◌≢◌, suc, ◌+◌, ◌≤◌, List, [], ◌∷◌, Option, Some, None, Bool, true, false, cond, option_map, refl, sym, ◌∙◌, ap, arith}
+use Rattle.std.proofs.Common.{◌≡◌, suc, ◌+◌, ◌≤◌, List, [], ◌∷◌, Some, Bool, true, false, cond, refl, sym, ◌∙◌, ap, arith}
 use Rattle.std.specs.Ordering.{eq_by_cmp}
 use Rattle.jc_rules.specs.declared.id.Id.{Id}
 use Rattle.jc_rules.specs.declared.key.Key.{Key}
@@ -7,8 +7,7 @@ use Rattle.jc_rules.specs.declared.key.Tagged.{Tagged}
 use Rattle.jc_rules.specs.declared.key.Tagged.TheVariants.{MapT, ListT, RegT}
 use Rattle.jc_rules.specs.Order.{key_cmp}
 use Rattle.jc_rules.specs.Entries.{find, replaced, keys_of}
-use Rattle.jc_rules.specs.Context.{Context, context, Children, children, no_child, child, listed, Register, Node, Values, node_of, values_of, registers, links, keys, content, with_content, with_presence}
-use Rattle.jc_rules.specs.ContextsAt.{node_at, at_node}
+use Rattle.jc_rules.specs.Context.{Context, context, Children, children, no_child, child, listed, Register, Node, Values, registers, links, keys, content, with_content, with_presence}
 use Rattle.jc_rules.specs.WellFormed.{IsChained, AreChained, AreLists, IsChainedList}
 use Rattle.jc_rules.proofs.OrderLemmas.{keys_total, exact_keys}
 use Rattle.jc_rules.proofs.EntriesLemmas.{same-eq}
@@ -147,35 +146,3 @@ bare-register k v w (context m l r p n) h = rw (h, emptied-replaced k v r) refl
 
 pub bare-presence : (k : Key) (s : List Id) (c : Context) → bare (with_presence k s c) ≡ bare c
 bare-presence k s (context m l r p n) = refl
-
-found-bare : (k : Key) (cs : Children) → find key_cmp k (listed (bare_in cs)) ≡ option_map bare (find key_cmp k (listed cs))
-found-bare k no_child = refl
-found-bare k (child j c cs) = go (eq_by_cmp key_cmp k j) (found-bare k cs)
-  where
-    go : (b : Bool) → find key_cmp k (listed (bare_in cs)) ≡ option_map bare (find key_cmp k (listed cs)) → cond b (Some (bare c)) (find key_cmp k (listed (bare_in cs))) ≡ option_map bare (cond b (Some c) (find key_cmp k (listed cs)))
-    go true ih = refl
-    go false ih = ih
-
-in_child : (ks : List Tagged) (o p : Option Context) → p ≡ option_map bare o → ((d : Context) → node_at ks (bare d) ≡ option_map bare (node_at ks d)) → at_node (node_of p) (λ d. node_at ks d) None ≡ option_map bare (at_node (node_of o) (λ d. node_at ks d) None)
-in_child ks None p e ih = rw e refl
-in_child ks (Some d) p e ih = rw e (ih d)
-
-in_values : (ks : List Tagged) (o p : Option Register) → at_node (values_of p) (λ d. node_at ks d) None ≡ option_map bare (at_node (values_of o) (λ d. node_at ks d) None)
-in_values ks None None = refl
-in_values ks None (Some v) = refl
-in_values ks (Some w) None = refl
-in_values ks (Some w) (Some v) = refl
-
-node-bare : (ks : List Tagged) (c : Context) → node_at ks (bare c) ≡ option_map bare (node_at ks c)
-node-bare [] c = refl
-node-bare (MapT k ∷ ks) (context m l r p n) = in_child ks (find key_cmp k (listed m)) _ (found-bare k m) (λ d. node-bare ks d)
-node-bare (ListT k ∷ ks) (context m l r p n) = in_child ks (find key_cmp k (listed l)) _ (found-bare k l) (λ d. node-bare ks d)
-node-bare (RegT k ∷ ks) (context m l r p n) = in_values ks (find key_cmp k r) (find key_cmp k (emptied r))
-
-none_mapped : (o : Option Context) → option_map bare o ≡ None → o ≡ None
-none_mapped None e = refl
-none_mapped (Some d) e = cc
-
--- the places of a context are those of it without its values
-pub still_there : (ks : List Tagged) (c d : Context) → bare c ≡ bare d → node_at ks c ≢ None → node_at ks d ≢ None
-still_there ks c d e h f = h (none_mapped (node_at ks c) (sym (node-bare ks c) ∙ ap (node_at ks) e ∙ node-bare ks d ∙ ap (option_map bare) f))

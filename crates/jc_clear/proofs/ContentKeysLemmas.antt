@@ -1,7 +1,7 @@
 -- About ContentKeys: the keys of a context in a list, and which are left of them.
 use Rattle.std.proofs.Common.{◌≡◌, ◌≢◌, ◌⊎◌, inl, inr, ℕ, zero, suc, ◌<◌, List, [], ◌∷◌, ◌++◌, length, filter, slice_index_or, Contains, Option, Some, None, Bool, true, false, is_some, ◌||◌, refl, sym, ◌∙◌, ap, subst, arith}
 use Rattle.std.specs.List.{AllByRecursion}
-use Rattle.std.specs.Ordering.{is_lt, eq_by_cmp}
+use Rattle.std.specs.Ordering.{eq_by_cmp}
 use Rattle.std.specs.declared.cmp.Ordering.{Ordering}
 use Rattle.std.specs.declared.cmp.Ordering.TheVariants.{Less, Equal, Greater}
 use Rattle.std.specs.Cmp.{tied_itself}
@@ -18,7 +18,7 @@ use Rattle.jc_rules.proofs.EntriesLemmas.{same-self, same-eq}
 use Rattle.jc_tree.specs.Tree.{is_after, least_after, all_keys}
 use Rattle.jc_clear.specs.ContentKeys.{has_content}
 use Rattle.jc_clear.specs.Turns.{IsOneOf, AreLeft}
-use Rattle.jc_tree.proofs.WalksLemmas.{IsNext, next_is, none_is, after_over}
+use Rattle.jc_tree.proofs.WalksLemmas.{IsNext, next_is, none_is, after_over, lt_less}
 
 -- rising, these keys and no others
 pub record AreContentKeys (ks : List Key) (c : Context) : Type 0 where
@@ -220,14 +220,6 @@ all_left ks c w = record {
   among = w.only;
   all = λ j i a. contained ks j (of_all (Contains ks) (keys c) j w.all i);
 }
-
-lt_less : (i j : Key) → is_lt (key_cmp i j) ≡ true → key_cmp i j ≡ Less
-lt_less i j e = go (key_cmp i j) refl
-  where
-    go : (o : Ordering) → key_cmp i j ≡ o → key_cmp i j ≡ Less
-    go Less f = f
-    go Equal f = let h : false ≡ true = rw f at e in cc
-    go Greater f = let h : false ≡ true = rw f at e in cc
 
 all_above : (k : Key) (ks : List Key) → AllByRecursion (λ j. key_cmp k j ≡ Less) ks → AllByRecursion (λ j. is_after (Some k) j ≡ true) ks
 all_above k [] a = tt

@@ -84,15 +84,13 @@ of_set again a values rows =
     either (by_test (has_row a.id rows && not again) (one K.ArgumentConflict) none) (of_values a.ignore_case (parser_of_value a.parser) values)
 
 of_action : (x : ArgAction) (again : Bool) (a : Rule) (values : List Text) (rows : List Row) → IsAlone (action_fault x again a values rows)
-of_action A.Set again a values rows = of_set again a values rows
-of_action A.SetTrue again a values rows = of_set again a values rows
-of_action A.SetFalse again a values rows = of_set again a values rows
 of_action A.Append again a values rows = of_values a.ignore_case (parser_of_value a.parser) values
 of_action A.Count again a values rows = of_count a values rows
 of_action A.Help again a values rows = one K.DisplayHelp
 of_action A.HelpShort again a values rows = one K.DisplayHelp
 of_action A.HelpLong again a values rows = one K.DisplayHelp
 of_action A.Version again a values rows = one K.DisplayVersion
+of_action _ again a values rows = of_set again a values rows
 
 of_use : (again : Bool) (a : Rule) (values : List Text) (rows : List Row) → IsAlone (use_fault again a values rows)
 of_use again a values rows =

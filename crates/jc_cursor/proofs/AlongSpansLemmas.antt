@@ -36,9 +36,6 @@ zeros_some n f e = go (eq-zero-or-pos n)
         omega (arith, all)
     go (inr p) = lowest p (eq-zero-or-pos (trailing_zeros w64 n))
 
-pub zeros_most : (n : ℕ) → trailing_zeros w64 n ≤ 64
-zeros_most n = trailing_le 64 n
-
 pub ones_same : (n i : ℕ) → n < 2 ^ 64 → n % 2 ≡ 1 → i < trailing_ones w64 n → bit_at n i ≡ n % 2
 ones_same n i f e w = go (eq-zero-or-pos (2 ^ 64 - 1 - n))
   where
@@ -63,9 +60,6 @@ ones_some n f e = go (eq-zero-or-pos (2 ^ 64 - 1 - n))
         let all : trailing_ones w64 n ≡ 64 = ap (trailing_zeros w64) z ∙ trailing_of_zero 64 in
         omega (arith, all)
     go (inr p) = lowest p (eq-zero-or-pos (trailing_ones w64 n))
-
-pub ones_most : (n : ℕ) → trailing_ones w64 n ≤ 64
-ones_most n = trailing_le 64 (bit_not w64 n)
 
 -- ---- elements whose bits are the same
 

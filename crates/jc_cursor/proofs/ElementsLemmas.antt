@@ -24,20 +24,13 @@ use Rattle.jc_tree.specs.Blocks.{IsAtMost, presence_bit}
 use Rattle.jc_tree.specs.Stretches.{LeadsOver}
 use Rattle.jc_cursor.specs.Along.{rule_of_bit, gone_over, count_bits, GoesOn}
 use Rattle.jc_cursor.specs.WayDown.{IsGrown}
-use Rattle.jc_cursor.proofs.TraceGrowsLemmas.{not_grown, grown_below}
+use Rattle.jc_cursor.proofs.TraceGrowsLemmas.{grown_below}
 
 -- What the loop along a list keeps, with so many present elements left to pass: what is derived or refused from its key is so from the head.
 pub record Along (c : Context) (i : ℕ) (k : Key) (m : ℕ) (t u : Rows) : Type 0 where
   pub leads : (j : Key) (v : Rows) → Derives (SelectIndex c (cursor [] k) m) (ToCursor (cursor [] j)) u v → Derives (SelectIndex c (cursor [] Head) i) (ToCursor (cursor [] j)) t (at_depth t.depth v)
   pub refuses : (why : Cause) → Refused (SelectIndex c (cursor [] k) m) why → Refused (SelectIndex c (cursor [] Head) i) why
   pub grown : IsGrown t u
-
-pub along_begins : (c : Context) (i : ℕ) (k : Key) (m : ℕ) (t : Rows) → k ≡ Head → m ≡ i → Along c i k m t t
-along_begins c i k m t ke me = rw (ke, me) (record {
-  leads = λ j v x. record { derivation = x.derivation; holds = x.holds; concludes = x.concludes; rows = x.rows; depth = refl };
-  refuses = λ why x. x;
-  grown = not_grown t;
-})
 
 -- a presence set with an identifier, and one with none
 pub has_one : (o : Option (List Id)) → has_ids (or_no_entries o) ≡ true → IsEmptyIds o → ⊥

@@ -1,18 +1,16 @@
 -- About Evaluates: the names of a map, key by key.
-use Rattle.std.proofs.Common.{◌≡◌, ◌≢◌, ℕ, zero, suc, ◌<◌, ◌≤◌, List, [], ◌∷◌, ◌++◌, length, take, get_or, filter_map, Option, Some, None, Contains, Bor, refl, sym, ◌∙◌, ap, arith, append-nil}
+use Rattle.std.proofs.Common.{◌≡◌, ◌≢◌, ℕ, zero, suc, ◌<◌, ◌≤◌, List, [], ◌∷◌, ◌++◌, length, take, get_or, filter_map, None, Contains, Bor, sym, ◌∙◌, ap, arith}
 use Rattle.std.proofs.lemmas.List.{take_all, length-map}
 use Rattle.std.proofs.lemmas.List.Elements.{filter_map-append}
 use Rattle.std.specs.List.{AllByRecursion}
-use Rattle.jc_rules.specs.declared.id.Id.{Id}
 use Rattle.jc_rules.specs.declared.key.Key.{Key}
-use Rattle.jc_rules.specs.declared.key.Key.TheVariants as K
 use Rattle.jc_rules.specs.declared.key.Tagged.{Tagged}
 use Rattle.jc_rules.specs.Order.{key_cmp}
 use Rattle.jc_rules.specs.Entries.{IsRising, keys_of}
 use Rattle.jc_rules.specs.Context.{Context, keys, presences, presence, links}
 use Rattle.jc_rules.specs.ContextsAt.{node_at, context_at}
 use Rattle.jc_rules.specs.WellFormed.{IsWellFormedContext}
-use Rattle.jc_rules.specs.Table.{IsEmptyIds, name_in_presence, names_in}
+use Rattle.jc_rules.specs.Table.{name_in_presence, names_in}
 use Rattle.jc_rules.proofs.ContextsAtLemmas.{there}
 use Rattle.jc_tree.specs.declared.store.Hint.{Hint}
 use Rattle.jc_tree.specs.Tree.{all_keys, keys_lent}
@@ -28,7 +26,7 @@ rise_at at c h k = presences_rise (context_at at c) (kept-node at c (context_at 
 of_presences : (P : Key → Type 0) (c : Context) → AllByRecursion P (all_keys c) → AllByRecursion P (keys_of (presences c))
 of_presences P c a = all-right P (keys c) (keys_of (presences c)) (all-left P (keys c ++ keys_of (presences c)) (keys_of (links c)) a)
 
-one_lent_more : (lent : List (Bor Key × Hint)) (n : ℕ) (x : Bor Key × Hint) → n < length lent → x ≡ get_or lent n x → take (suc n) (keys_lent lent) ≡ take n (keys_lent lent) ++ x.0.now ∷ []
+pub one_lent_more : (lent : List (Bor Key × Hint)) (n : ℕ) (x : Bor Key × Hint) → n < length lent → x ≡ get_or lent n x → take (suc n) (keys_lent lent) ≡ take n (keys_lent lent) ++ x.0.now ∷ []
 one_lent_more [] n x h e = absurd (omega arith)
 one_lent_more (l ∷ lent) zero x h e = ap (λ (y : Bor Key × Hint). y.0.now ∷ []) (sym e)
 one_lent_more (l ∷ lent) (suc n) x h e = ap (λ ks. l.0.now ∷ ks) (one_lent_more lent n x (omega arith) e)
@@ -54,18 +52,3 @@ named_all lent n at c names h p k r all e =
     e
     ∙ ap (λ ks. filter_map name_in_presence (entries_at ks (presences d))) whole
     ∙ ap (filter_map name_in_presence) (all_entries (keys_lent lent) (presences d) r (rise_at at c p k) (of_presences (Contains (keys_lent lent)) d all))
-
--- ---- one key
-
-pub one_name : (k : Key) (s n : List ℕ) (o : Option (List Id)) (old new : List (List ℕ)) → k ≡ K.Name s → n ≡ s → (IsEmptyIds o → ⊥) → new ≡ old ++ n ∷ [] → new ≡ old ++ filter_map name_in_presence (entry_of k o)
-one_name k s n None old new ke ne h e = absurd (h tt)
-one_name k s n (Some []) old new ke ne h e = absurd (h tt)
-one_name k s n (Some (i ∷ is)) old new ke ne h e = rw (ke, e, ne) refl
-
-pub no_name : (k : Key) (o : Option (List Id)) (old : List (List ℕ)) → ((s : List ℕ) → k ≡ K.Name s → IsEmptyIds o) → old ≡ old ++ filter_map name_in_presence (entry_of k o)
-no_name k None old h = sym (append-nil old)
-no_name K.Doc (Some ids) old h = sym (append-nil old)
-no_name K.Head (Some ids) old h = sym (append-nil old)
-no_name (K.Elem i) (Some ids) old h = sym (append-nil old)
-no_name (K.Name s) (Some []) old h = sym (append-nil old)
-no_name (K.Name s) (Some (i ∷ is)) old h = absurd (h s refl)

@@ -1,7 +1,7 @@
 -- About WayDown: traces that only grow.
 use Rattle.std.proofs.Common.{◌≡◌, [], ◌∷◌, refl, arith}
 use Rattle.jc_rules.specs.declared.rule.Rule.{Rule}
-use Rattle.jc_rules.specs.Trace.{Rows, pushed, one_deeper, at_depth}
+use Rattle.jc_rules.specs.Trace.{Rows, pushed, one_deeper}
 use Rattle.jc_rules.proofs.DerivesLemmas.{same_rows, longer_still}
 use Rattle.jc_cursor.specs.WayDown.{IsGrown}
 
@@ -11,13 +11,5 @@ not_grown t = record { longer = same_rows t; deeper = omega arith }
 pub grown_on : (t u v : Rows) → IsGrown t u → IsGrown u v → IsGrown t v
 grown_on t u v g h = record { longer = longer_still t u v g.longer h.longer; deeper = omega (arith, g.deeper, h.deeper) }
 
--- by one rule
-pub grown_pushed : (t u v : Rows) (r : Rule) → IsGrown t u → v ≡ pushed u r → IsGrown t v
-grown_pushed t u v r g e = rw e (grown_on t u (pushed u r) g (record { longer = record { added = (r, u.depth) ∷ []; is = refl }; deeper = omega arith }))
-
 pub grown_below : (t u v : Rows) (r : Rule) → IsGrown t u → v ≡ one_deeper (pushed u r) → IsGrown t v
 grown_below t u v r g e = rw e (grown_on t u (one_deeper (pushed u r)) g (record { longer = record { added = (r, u.depth) ∷ []; is = refl }; deeper = omega arith }))
-
--- back at the depth of its start
-pub grown_back : (t u v : Rows) → IsGrown t u → v ≡ at_depth t.depth u → IsGrown t v
-grown_back t u v g e = rw e (record { longer = record { added = g.longer.added; is = g.longer.is }; deeper = omega arith })

@@ -18,7 +18,7 @@ use Rattle.jc_rules.proofs.RisingLemmas.{all_at}
 use Rattle.jc_rules.proofs.DerivesLemmas.{one_premise}
 use Rattle.jc_rules.specs.Paths.{HasContext}
 use Rattle.jc_cursor.specs.WayDown.{IsGrown, Descends, Refuses, LeadsDown, RefusesDown, RefusedOnWay}
-use Rattle.jc_cursor.proofs.TraceGrowsLemmas.{not_grown, grown_below}
+use Rattle.jc_cursor.proofs.TraceGrowsLemmas.{grown_below}
 use Rattle.jc_rules.proofs.BoolLemmas.{none_of}
 use Rattle.jc_tree.proofs.PlacesLemmas.{some_content}
 use Rattle.jc_tree.proofs.PathLemmas.{found_context}
@@ -29,14 +29,6 @@ pub record Down (r : Rule) (path : List Tagged) (n : ℕ) (c : Context) (t u : R
   pub leads : (Q : List Tagged → Context → Question) (A : List Tagged → Answer) (v : Rows) → Descends r Q A → Derives (Q (drop n path) (context_at (take n path) c)) (A (drop n path)) u v → Derives (Q path c) (A path) t (at_depth t.depth v)
   pub refuses : (Q : List Tagged → Context → Question) (why : Cause) → Refuses Q → Refused (Q (drop n path) (context_at (take n path) c)) why → Refused (Q path c) why
   pub grown : IsGrown t u
-
-pub down_begins : (r : Rule) (path : List Tagged) (c : Context) (t : Rows) → Down r path 0 c t t
-down_begins r path c t = record {
-  place = λ e. cc;
-  leads = λ Q A v D x. record { derivation = x.derivation; holds = x.holds; concludes = x.concludes; rows = x.rows; depth = refl };
-  refuses = λ Q why R x. x;
-  grown = not_grown t;
-}
 
 module _ (path : List Tagged) (n : ℕ) (k : Tagged) (within : n < length path) (is : k ≡ get_or path n k) where
   front : take (n + 1) path ≡ take n path ++ k ∷ []

@@ -1,6 +1,6 @@
 -- About specs/DebuggerState and specs/Moves: what the contracts of a debugger's calls say of its `Session`. jc_session
 -- cites it.
-use Rattle.std.proofs.Common.{◌≡◌, ℕ, List, [], ◌∷◌, ◌++◌, length, slice_get, unwrap_or, Option, Some, None, ap, refl, sym, subst}
+use Rattle.std.proofs.Common.{◌≡◌, ℕ, List, [], ◌∷◌, ◌++◌, length, slice_get, unwrap_or, Some, None, ap, sym, subst}
 use Rattle.jc_rules.specs.declared.operation.Event.{Event}
 use Rattle.jc_rules.specs.Refused.{Cause}
 use Rattle.jc_rules.specs.Step.{Network}
@@ -8,11 +8,10 @@ use Rattle.jc_network.specs.declared.fault.Stuck.{Stuck}
 use Rattle.jc_network.specs.Given.{IsStart, IsStarted}
 use Rattle.jc_network.specs.Steps.{stuck_for}
 use Rattle.jc_scenario.specs.WellFormed.{Scenario}
-use Rattle.jc_debug.specs.declared.breaks.Break.{Break}
 use Rattle.jc_debug.specs.declared.fault.Halt.TheVariants as H
 use Rattle.jc_debug.specs.Moves.{IsHalted}
-use Rattle.jc_debug.specs.DebuggerState.{GoesTo, arrives, stops, moved_to, with_break}
-use Rattle.jc_debug.specs.Invariant.{Seen, start_of, session_of, IsDebugger, IsMoved, placed_in}
+use Rattle.jc_debug.specs.DebuggerState.{GoesTo, arrives, stops, moved_to}
+use Rattle.jc_debug.specs.Invariant.{Seen, start_of, session_of, IsDebugger, IsMoved}
 use Rattle.jc_debug.proofs.InvariantLemmas.{at_old}
 
 -- a new debugger is at the scenario's start

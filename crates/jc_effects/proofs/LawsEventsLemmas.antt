@@ -193,11 +193,8 @@ AppliesJust A B None = (o : Op) → AppliesOp A B o → ⊥
 -- an event by which no operation is ever applied
 abbrev pub IsOtherEvent : Event → Type 0
 IsOtherEvent (E.Exec p) = ⊥
-IsOtherEvent (E.Send p) = Unit {0}
-IsOtherEvent (E.Recv p q) = Unit {0}
-IsOtherEvent (E.Take p q i) = Unit {0}
 IsOtherEvent (E.Apply p i) = ⊥
-IsOtherEvent (E.Done p) = Unit {0}
+IsOtherEvent _ = Unit {0}
 
 module _ (scripts : List (List Cmd)) (network new : List State) (event : Event) (rows : List (Rule × ℕ)) (r : IsReached scripts network) (s : Step network event new rows) where
   abbrev A : State

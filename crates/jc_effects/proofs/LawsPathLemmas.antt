@@ -1,5 +1,5 @@
 -- About Laws: what is off the way of an operation, by its path.
-use Rattle.std.proofs.Common.{◌≡◌, List, [], ◌∷◌, ◌++◌, Bool, true, false, not, ◌&&◌, Option, Some, None, refl, sym, ◌∙◌, ap, subst}
+use Rattle.std.proofs.Common.{◌≡◌, List, [], ◌∷◌, ◌++◌, true, false, not, ◌&&◌, Option, Some, None, refl, sym, ◌∙◌, ap, subst}
 use Rattle.std.proofs.lemmas.List.{append-nil}
 use Rattle.jc_rules.specs.declared.id.Id.{Id}
 use Rattle.jc_rules.specs.declared.key.Key.{Key}
@@ -10,6 +10,7 @@ use Rattle.jc_rules.specs.declared.value.Value.{Value}
 use Rattle.jc_rules.specs.declared.value.Value.TheVariants as V
 use Rattle.jc_rules.specs.Order.{same_key}
 use Rattle.jc_rules.specs.Context.{Context, next, key_of_tagged}
+use Rattle.jc_rules.proofs.BoolLemmas.{and_false}
 use Rattle.jc_vectors.specs.OperationIds.{with_deps}
 use Rattle.jc_meaning.specs.Effects.{same_tagged, same_path, is_at_or_above, is_delete, is_insert, is_clearing, target, is_made_by, passed, value_in}
 use Rattle.jc_meaning.specs.Seen.{seen}
@@ -44,10 +45,6 @@ record IsApart (X : List Tagged) (q : Key) (v : Option Value) (R : List Tagged) 
   pub above : is_at_or_above R l X q ≡ false
   pub under : is_at_or_above X q R l ≡ false
   pub made : (u : Tagged) → same_key l (key_of_tagged u) ≡ true → passed X q v R u ≡ false
-
-and_false : (b : Bool) → (b && false) ≡ false
-and_false true = refl
-and_false false = refl
 
 -- where the rests are apart, the place is away from the operation
 apart_away : (o : Op) (deps : List Id) (P X R : List Tagged) (l : Key) → o.cursor.path ≡ P ++ X → IsApart X (target o) (value_in o.mutation) R l → IsAway (with_deps deps o) (P ++ R) l
@@ -85,11 +82,7 @@ pub other_made : (v : Option Value) (q : Key) (u : Tagged) → same_key q (key_o
 other_made None q u e = refl
 other_made (Some V.EmptyMap) q u e = other_tags (MapT q) u e
 other_made (Some V.EmptyList) q u e = other_tags (ListT q) u e
-other_made (Some (V.Number s)) q u e = other_tags (RegT q) u e
-other_made (Some (V.Str s)) q u e = other_tags (RegT q) u e
-other_made (Some V.True) q u e = other_tags (RegT q) u e
-other_made (Some V.False) q u e = other_tags (RegT q) u e
-other_made (Some V.Null) q u e = other_tags (RegT q) u e
+other_made _ q u e = other_tags (RegT q) u e
 
 -- the path goes on by t, the place by u
 turn_off : (t : Tagged) (X : List Tagged) (q : Key) (v : Option Value) (u : Tagged) (R : List Tagged) (l : Key) → same_tagged t u ≡ false → IsApart (t ∷ X) q v (u ∷ R) l

@@ -3,7 +3,6 @@ use Rattle.std.proofs.Common.{◌≡◌, ◌==◌, option_to_list, zero, suc, �
 use Rattle.std.specs.List.{AllByRecursion}
 use Rattle.std.specs.Borrow.{Bor}
 use Rattle.std.proofs.lemmas.Bool.{eqb-true}
-use Rattle.std.proofs.lemmas.List.{append-nil}
 use Rattle.jc_rules.specs.declared.id.Id.{Id}
 use Rattle.jc_rules.specs.declared.key.Key.{Key}
 use Rattle.jc_rules.specs.declared.key.Tagged.{Tagged}
@@ -22,7 +21,7 @@ use Rattle.jc_meaning.proofs.OrdersLemmas.{keys_eq, keys_self}
 use Rattle.jc_meaning.proofs.ClearingEffectsLemmas.{ids_below_new, value_below_new}
 use Rattle.jc_effects.specs.Difference.{Differences, no_difference, below, IsSameAt, IsSameFrom, IsDifference}
 use Rattle.jc_effects.specs.Parts.{OnlyLosesAt, OnlyLoses, AreLater, IsDifferenceAmong}
-use Rattle.jc_effects.proofs.PartsAmongLemmas.{none_among, same_more, all_among}
+use Rattle.jc_effects.proofs.PartsAmongLemmas.{same_more, all_among}
 use Rattle.jc_effects.proofs.PartsReadLemmas.{IsNew}
 
 -- where nothing was, nothing was lost
@@ -114,9 +113,6 @@ pub record PassedBack (all left : List Key) (c d : Context) (x : Differences) : 
   pub passed : List Key
   pub is : all ≡ left ++ passed
   pub among : IsDifferenceAmong passed c d x
-
-pub passed_none : (all : List Key) (c d : Context) → PassedBack all all c d no_difference
-passed_none all c d = record { passed = []; is = sym (append-nil all); among = none_among c d }
 
 later_than : (front : List Key) (k : Key) (ks : List Key) → IsRising key_cmp (front ++ k ∷ ks) → AreLater k ks
 later_than [] k ks h = h.0

@@ -12,7 +12,7 @@ use Rattle.jc_rules.specs.declared.value.Value.{Value}
 use Rattle.jc_rules.specs.Order.{same_id, same_key}
 use Rattle.jc_rules.specs.Ids.{has_id}
 use Rattle.jc_rules.specs.Context.{Context, key_of_tagged}
-use Rattle.jc_rules.proofs.BoolLemmas.{no_truth, same_tests}
+use Rattle.jc_rules.proofs.BoolLemmas.{no_truth, same_tests, and_false}
 use Rattle.jc_vectors.specs.OperationIds.{with_deps}
 use Rattle.jc_meaning.specs.Effects.{same_tagged, same_path, is_at_or_above, is_delete, is_insert, is_clearing, target_of, target, touches, clears, written_by, is_made_by, passed, goes_through, value_in, primitive_in}
 use Rattle.jc_meaning.specs.Seen.{seen, ids_at, value_seen_at}
@@ -26,10 +26,6 @@ use Rattle.jc_effects.specs.Parts.{OnlyLosesAt, OnlyLoses}
 use Rattle.jc_effects.proofs.ElsewhereLemmas.{tidy_before, changes_of, elsewhere}
 use Rattle.jc_effects.proofs.LawsPathLemmas.{seen_seen, other_made}
 use Rattle.jc_effects.proofs.LossesLemmas.{up}
-
-and_false : (b : Bool) → (b && false) ≡ false
-and_false true = refl
-and_false false = refl
 
 and_true : (b : Bool) → b ≡ (b && true)
 and_true true = refl

@@ -1,5 +1,5 @@
 -- About Parts: the tokens of members and of items, one after another.
-use Rattle.std.proofs.Common.{◌≡◌, ◌==◌, ℕ, length, List, [], ◌∷◌, ◌++◌, append_assoc, Bool, true, false, not, ◌&&◌, cond, codes, map, refl, sym, ◌∙◌, ap, subst}
+use Rattle.std.proofs.Common.{◌≡◌, ◌==◌, ℕ, length, List, [], ◌∷◌, ◌++◌, append_assoc, Bool, true, false, codes, map, refl, sym, ◌∙◌, ap, subst}
 use Rattle.std.proofs.lemmas.List.{append-nil}
 use Rattle.json.specs.Json.{Json, array, object, Items, no_items, item}
 use Rattle.json.specs.Token.{Token}
@@ -8,18 +8,16 @@ use Rattle.json.specs.Tree.{json_tokens, items_tokens, members_tokens}
 use Rattle.json.specs.Written.{Written}
 use Rattle.jc_rules.specs.declared.id.Id.{Id}
 use Rattle.jc_rules.specs.declared.key.Key.{Key}
-use Rattle.jc_rules.specs.declared.key.Tagged.TheVariants.{MapT, ListT, RegT}
 use Rattle.jc_rules.specs.Context.{Register}
 use Rattle.jc_rules.proofs.BoolLemmas.{no_truth}
 use Rattle.jc_json.specs.Json.{id_text}
 use Rattle.jc_json.specs.Gains.{Gains}
 use Rattle.jc_json.specs.Values.{string_items, pair_items}
 use Rattle.jc_json.specs.declared.writing.Numbers.TheVariants.{Named}
-use Rattle.jc_json.proofs.GainsLemmas.{gains_nothing, gains_then, gains_between}
-use Rattle.jc_effects.specs.declared.own.Tags.{Tags}
+use Rattle.jc_json.proofs.GainsLemmas.{gains_then, gains_between}
 use Rattle.jc_effects.specs.Difference.{OwnDifference, Differences, no_difference, difference, is_no_difference}
-use Rattle.jc_effects.specs.EffectsJson.{Labelled, as_members, as_items, id_json, some_items, some_tags, tag_word, place_members, place_items}
-use Rattle.jc_effects.specs.Parts.{labelled_tokens, item_tokens, first_place_tokens, tags_made, front_members, middle_members, back_members}
+use Rattle.jc_effects.specs.EffectsJson.{Labelled, as_members, as_items, id_json, some_items, place_members, place_items}
+use Rattle.jc_effects.specs.Parts.{labelled_tokens, item_tokens, first_place_tokens, front_members, middle_members, back_members}
 
 -- ---- members
 
@@ -64,56 +62,11 @@ pub some_written : (a b c : Written) (name : List ℕ) (js : Items) → is_no_it
 some_written a b c name no_items e g h = no_truth (sym e)
 some_written a b c name (item j js) e g h = labelled_one a b c name (array (item j js)) g h
 
-pub none_written : (a : Written) (name : List ℕ) (js : Items) → is_no_item js ≡ true → Gains a a (labelled_tokens (some_items name js))
-none_written a name no_items e = gains_nothing a
-none_written a name (item j js) e = no_truth e
-
 pub places_none : (names : List (List ℕ)) (x : Differences) → is_no_item (place_items names x) ≡ is_no_difference x
 places_none names no_difference = refl
 places_none names (difference k o m l rest) = refl
 
--- ---- tags
-
-pub no_tags : (a : Written) (k : Key) (t : Tags) → t.map ≡ false → t.list ≡ false → t.register ≡ false → Gains a a (labelled_tokens (some_tags (tags_made k t)))
-no_tags a k t m l r = subst (λ tags. Gains a a (labelled_tokens (some_tags tags))) (λ i. cond (sym m i) (MapT k ∷ []) [] ++ cond (sym l i) (ListT k ∷ []) [] ++ cond (sym r i) (RegT k ∷ []) []) (gains_nothing a)
-
-word : List ℕ → Bool → List Token
-word s b = cond b (T.string s ∷ []) []
-
-tags_front : (k : Key) (m l r : Bool) → item_tokens (as_items (map tag_word (cond m (MapT k ∷ []) [] ++ cond l (ListT k ∷ []) [] ++ cond r (RegT k ∷ []) []))) ≡ (cond m (T.string (codes "map") ∷ []) [] ++ cond l (T.string (codes "list") ∷ []) []) ++ cond r (T.string (codes "register") ∷ []) []
-tags_front k true true true = refl
-tags_front k true true false = refl
-tags_front k true false true = refl
-tags_front k true false false = refl
-tags_front k false true true = refl
-tags_front k false true false = refl
-tags_front k false false true = refl
-tags_front k false false false = refl
-
-some_tag : (k : Key) (m l r : Bool) → (not m && (not l && not r)) ≡ false → is_no_item (as_items (map tag_word (cond m (MapT k ∷ []) [] ++ cond l (ListT k ∷ []) [] ++ cond r (RegT k ∷ []) []))) ≡ false
-some_tag k true true true e = refl
-some_tag k true true false e = refl
-some_tag k true false true e = refl
-some_tag k true false false e = refl
-some_tag k false true true e = refl
-some_tag k false true false e = refl
-some_tag k false false true e = refl
-some_tag k false false false e = no_truth (sym e)
-
-pub tags_written : (a b c d e f g : Written) (k : Key) (t : Tags) → (not t.map && (not t.list && not t.register)) ≡ false → Gains a b (T.key (codes "made") ∷ []) → Gains b c (T.begin_array ∷ [])
-    → Gains c d (cond t.map (T.string (codes "map") ∷ []) []) → Gains d e (cond t.list (T.string (codes "list") ∷ []) []) → Gains e f (cond t.register (T.string (codes "register") ∷ []) []) → Gains f g (T.end_array ∷ [])
-    → Gains a g (labelled_tokens (some_tags (tags_made k t)))
-tags_written a b c d e f g k t some key begins m l r ends =
-    some_written a b g (codes "made") (as_items (map tag_word (tags_made k t))) (some_tag k t.map t.list t.register some) key
-    (array_written b c f g (as_items (map tag_word (tags_made k t))) begins
-    (subst (Gains c f) (sym (tags_front k t.map t.list t.register)) (gains_then c e f _ _ (gains_then c d e _ _ m l) r))
-    ends)
-
 -- ---- places
-
--- the first place and the others
-pub place_then : (names : List (List ℕ)) (k : Key) (o : OwnDifference) (m l rest : Differences) → item_tokens (place_items names (difference k o m l rest)) ≡ first_place_tokens names (difference k o m l rest) ++ item_tokens (place_items names rest)
-place_then names k o m l rest = refl
 
 pub place_written : (a b c d e f g h : Written) (names : List (List ℕ)) (k : Key) (o : OwnDifference) (m l rest : Differences) → Gains a b (T.begin_object ∷ []) → Gains b c (labelled_tokens (front_members names k o))
     → Gains c d (labelled_tokens (some_items (codes "list") (place_items names l))) → Gains d e (labelled_tokens (middle_members names o)) → Gains e f (labelled_tokens (some_items (codes "map") (place_items names m)))

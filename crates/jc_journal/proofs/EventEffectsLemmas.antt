@@ -1,8 +1,8 @@
 -- About EventLine (AreEffects): the operation of an event leads from its replica's tree to the next one. `event_effects`
 -- uses it.
-use Rattle.std.proofs.Common.{◌≡◌, ◌≤◌, ℕ, List, length, slice_get, Bool, true, false, Option, Some, None, refl, sym, ◌∙◌, ap, subst}
+use Rattle.std.proofs.Common.{◌≡◌, ℕ, List, Bool, true, false, Option, Some, None, refl, sym, ◌∙◌, ap, subst}
 use Rattle.std.specs.Option.{option_map}
-use Rattle.std.proofs.lemmas.Option.{same_Some, slice_get_past}
+use Rattle.std.proofs.lemmas.Option.{same_Some}
 use Rattle.jc_rules.specs.declared.operation.Event.{Event}
 use Rattle.jc_rules.specs.declared.operation.Event.TheVariants as E
 use Rattle.jc_rules.specs.declared.operation.Op.{Op}
@@ -16,7 +16,6 @@ use Rattle.jc_replica.specs.declared.last_step.LastStep.{LastStep}
 use Rattle.jc_replica.specs.ReplicaHistory.{ReplicaHistory}
 use Rattle.jc_network.specs.Laws.{IsReached}
 use Rattle.jc_network.specs.Steps.{HasReplica}
-use Rattle.jc_network.proofs.MembersLemmas.{set_there}
 use Rattle.jc_effects.specs.Difference.{Differences, IsDifference}
 use Rattle.jc_effects.specs.Laws.{IsNextTree, IsChangedBy}
 use Rattle.jc_effects.proofs.OneLemmas.{one_difference}
@@ -30,11 +29,8 @@ use Rattle.jc_journal.proofs.LastStepPartsLemmas.{HasParts}
 -- the operation of an event is the one that it applied
 event_applies : (scripts : List (List Cmd)) (network new : List State) (event : Event) (rows : List (Rule × ℕ)) → IsReached scripts network → (s : Step network event new rows) → AppliesJust s.before s.after (event_op event s.before s.after)
 event_applies scripts network new (E.Exec p) rows r s = exec_applies scripts network new p rows r s
-event_applies scripts network new (E.Send p) rows r s = others_apply scripts network new (E.Send p) rows r s tt
-event_applies scripts network new (E.Recv p q) rows r s = others_apply scripts network new (E.Recv p q) rows r s tt
-event_applies scripts network new (E.Take p q i) rows r s = others_apply scripts network new (E.Take p q i) rows r s tt
 event_applies scripts network new (E.Apply p i) rows r s = apply_applies scripts network new p i rows r s
-event_applies scripts network new (E.Done p) rows r s = others_apply scripts network new (E.Done p) rows r s tt
+event_applies scripts network new event rows r s = others_apply scripts network new event rows r s tt
 
 -- so it leads from the one tree to the next
 pub changed_by_event : (scripts : List (List Cmd)) (network new : List State) (event : Event) (rows : List (Rule × ℕ)) → IsReached scripts network → (s : Step network event new rows) → (o : Op) → event_op event s.before s.after ≡ Some o → IsNextTree o s.before.tree s.after.tree
@@ -81,14 +77,6 @@ same_id (Some o) = refl
 pub kept_id : (event : Event) (A B : State) (step : Option LastStep) (kept : Option Op) → HasParts event A B step → kept ≡ step_op step
     → option_map (λ (o : Op). o.id) kept ≡ option_map (λ (o : Op). o.id) (event_op event A B)
 kept_id event A B step kept h e = ap (option_map (λ (o : Op). o.id)) (e ∙ h.op) ∙ same_id (event_op event A B)
-
--- an event's replica is there after it
-pub not_gone : (event : Event) (old new : List State) (rows : List (Rule × ℕ)) → Step old event new rows → length new ≤ replica_of event → ⊥
-not_gone event old new rows s past =
-    let p = replica_of event in
-    let now : slice_get new p ≡ Some s.after = ap (λ (N : List State). slice_get N p) s.is_new ∙ set_there old p s.before s.after s.is_there in
-    let none : None ≡ Some s.after = sym (slice_get_past new p past) ∙ now in
-    cc
 
 -- the trees of the replica before and after it
 pub tree_was : (event : Event) (old new : List State) (rows : List (Rule × ℕ)) (replica : ReplicaHistory) → (s : Step old event new rows) → HasReplica old (replica_of event) replica → replica.history.now.tree ≡ s.before.tree

@@ -1,5 +1,5 @@
 -- About EventLine: the last step of a network gives the line of its event.
-use Rattle.std.proofs.Common.{◌≡◌, ℕ, List, [], ◌∷◌, Bool, slice_get, Option, Some, None, codes, refl, sym, ◌∙◌, ap}
+use Rattle.std.proofs.Common.{◌≡◌, ℕ, List, [], ◌∷◌, Bool, Option, Some, None, codes, refl, sym, ◌∙◌, ap}
 use Rattle.std.specs.Option.{option_map}
 use Rattle.std.proofs.lemmas.Option.{same_Some}
 use Rattle.jc_rules.specs.declared.id.Id.{Id}
@@ -15,7 +15,7 @@ use Rattle.jc_network.specs.Steps.{HasReplica}
 use Rattle.jc_effects.specs.Difference.{Differences}
 use Rattle.jc_journal.specs.Operation.{NamedJson}
 use Rattle.jc_journal.specs.EventLine.{command_member, new_ids, new_member, event_op, op_member, line_members, members_line, event_line}
-use Rattle.jc_journal.specs.Parts.{step_command, step_new, step_op, step_members}
+use Rattle.jc_journal.specs.Parts.{step_new, step_op, step_members}
 use Rattle.jc_journal.proofs.LastStepPartsLemmas.{HasParts, now_after}
 use Rattle.jc_journal.proofs.OperationLemmas.{op_kept}
 

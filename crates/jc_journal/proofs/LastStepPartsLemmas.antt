@@ -1,5 +1,5 @@
 -- About EventLine: what the last step of a network did gives the parts of its event's line.
-use Rattle.std.proofs.Common.{◌≡◌, ◌≢◌, ℕ, ◌+◌, ◌<◌, ◌≤◌, max, eqb, eqb-true, ◌⊎◌, inl, inr, List, [], ◌∷◌, ◌++◌, Bool, true, false, IfSome, IfNone, filter, length, length-append, eq-eqb, Contains, map, slice_get, slice_set, Option, Some, None, codes, refl, sym, ◌∙◌, ap, subst, arith}
+use Rattle.std.proofs.Common.{◌≡◌, ℕ, ◌+◌, ◌<◌, ◌≤◌, max, eqb, eqb-true, ◌⊎◌, inl, inr, List, [], ◌∷◌, ◌++◌, Bool, true, false, IfSome, IfNone, filter, length, length-append, eq-eqb, map, slice_get, slice_set, Option, Some, None, codes, refl, sym, ◌∙◌, ap, subst, arith}
 use Rattle.std.specs.Option.{option_map}
 use Rattle.std.proofs.lemmas.Option.{same_Some, slice_get-map}
 use Rattle.json.specs.Json.{string}
@@ -8,7 +8,7 @@ use Rattle.jc_rules.specs.declared.operation.Event.{Event}
 use Rattle.jc_rules.specs.declared.operation.Event.TheVariants as E
 use Rattle.jc_rules.specs.declared.operation.Op.{Op}
 use Rattle.jc_rules.specs.declared.rule.Rule.{Rule}
-use Rattle.jc_rules.specs.History.{History, timeline}
+use Rattle.jc_rules.specs.History.{History}
 use Rattle.jc_rules.specs.Ids.{has_id, with_id, greatest, without}
 use Rattle.jc_rules.specs.Order.{same_id}
 use Rattle.jc_rules.specs.State.{State}
@@ -18,7 +18,6 @@ use Rattle.jc_rules.specs.Table.{op_of}
 use Rattle.jc_rules.specs.VersionVectors.{covered, greatest_of}
 use Rattle.jc_rules.proofs.CoveredLemmas.{filled_in, greatest_here, greatest_of-filled, greatest_of-with}
 use Rattle.jc_rules.proofs.IdSetLemmas.{greatest_of_below}
-use Rattle.jc_rules.proofs.IdsLemmas.{same_id-self, same_id-true}
 use Rattle.jc_rules.proofs.RepresentationLemmas.{counters_tell, looked_up}
 use Rattle.jc_syntax.specs.Trees.{cmd_of}
 use Rattle.jc_printer.specs.Canon.{canon_cmd}
@@ -38,7 +37,7 @@ use Rattle.jc_meaning.proofs.ComparisonLemmas.{held_has, run_well, stands_held}
 use Rattle.jc_network.specs.Invariant.{IsFromStart}
 use Rattle.jc_network.specs.LastStep.{NetHasLastStep}
 use Rattle.jc_network.proofs.AppliedIdsLemmas.{kept_ids}
-use Rattle.jc_network.proofs.EventDidLemmas.{new_op, Did, bound, made, sent, received, took, applied, done, did}
+use Rattle.jc_network.proofs.EventDidLemmas.{Did, bound, made, sent, received, took, applied, done, did}
 use Rattle.jc_network.proofs.MembersLemmas.{op_in, set_there, set_other}
 use Rattle.jc_journal.specs.Operation.{NamedJson}
 use Rattle.jc_journal.specs.EventLine.{IsBeforeLast, command_text, command_member, new_ids, event_op}

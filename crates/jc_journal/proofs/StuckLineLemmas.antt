@@ -2,7 +2,6 @@
 use Rattle.std.proofs.Common.{◌≡◌, ℕ, zero, suc, ◌+◌, ◌<◌, List, [], ◌∷◌, ◌++◌, Bool, true, false, not, ◌||◌, ◌&&◌, cond, Contains, ◌⊎◌, inl, inr, Option, Some, None, Bor, option_copied, is_some, length, drop, take, map, slice_get, get_or, refl, sym, ◌∙◌, ap, subst, add-one}
 use Rattle.std.proofs.lemmas.Option.{same_Some, slice_get_read}
 use Rattle.std.proofs.lemmas.List.Elements.{Contains-append_left, Contains-append_right}
-use Rattle.json.specs.Token.{Token}
 use Rattle.json.specs.Token as T
 use Rattle.json.specs.Tree.{items_tokens}
 use Rattle.jc_rules.specs.declared.id.Id.{Id}
@@ -15,7 +14,7 @@ use Rattle.jc_rules.specs.Table.{op_of}
 use Rattle.jc_rules.specs.VersionVectors.{covered}
 use Rattle.jc_rules.proofs.BoolLemmas.{or_right, or_cases}
 use Rattle.jc_rules.proofs.CoveredLemmas.{left_in}
-use Rattle.jc_rules.proofs.IdsLemmas.{same_id-self, same_id-true, has_id-with, has_id-without, without-rises, same_members}
+use Rattle.jc_rules.proofs.IdsLemmas.{same_id-true, has_id-with, has_id-without, without-rises, same_members}
 use Rattle.jc_rules.proofs.RepresentationLemmas.{counters_tell}
 use Rattle.jc_vectors.specs.StoredStates.{stored_op}
 use Rattle.jc_vectors.proofs.ApplyStandsLemmas.{deps_closed, kept_found}
@@ -28,8 +27,8 @@ use Rattle.jc_network.specs.Invariant.{IsFromStart}
 use Rattle.jc_network.specs.RunInvariant.{IsReplicaAt, IsWell}
 use Rattle.jc_network.specs.Steps.{HasReplica}
 use Rattle.jc_network.proofs.AfterLemmas.{take_more}
-use Rattle.jc_network.proofs.AppliedIdsLemmas.{kept_ids}
-use Rattle.jc_network.proofs.MembersLemmas.{none_in, first_in, later_in, in_cons, op_in}
+use Rattle.jc_network.proofs.AppliedIdsLemmas.{kept_ids, id_in, of_id_in}
+use Rattle.jc_network.proofs.MembersLemmas.{op_in}
 use Rattle.jc_network.proofs.RunInvariantStartLemmas.{held_made, sound}
 use Rattle.jc_meaning.proofs.ComparisonLemmas.{held_has, run_well, stands_held}
 use Rattle.jc_json.specs.Values.{string_items}
@@ -176,22 +175,6 @@ replica_missing network p replica old new deps applied queue has q h g k =
     ∙ ap (λ (n : ℕ). has_id k (made_ids (take n network)) && f) (sym (add-one p))
 
 -- ---- the identifiers of what was made are those of the sound set
-
-pub id_in : (os : List Op) (o : Op) → Contains os o → has_id o.id (identifiers os) ≡ true
-id_in [] o k = none_in o k
-id_in (p ∷ os) o k = go (in_cons o p os k) (id_in os o)
-  where
-    go : (p ≡ o) ⊎ Contains os o → (Contains os o → has_id o.id (identifiers os) ≡ true) → has_id o.id (identifiers (p ∷ os)) ≡ true
-    go (inl s) ih = subst (λ (x : Op). has_id o.id (identifiers (x ∷ os)) ≡ true) (sym s) (rw (same_id-self o.id) refl)
-    go (inr m) ih = or_right (same_id o.id p.id) (has_id o.id (identifiers os)) (ih m)
-
-of_id_in : (os : List Op) (i : Id) → has_id i (identifiers os) ≡ true → (o : Op) × Contains os o × (o.id ≡ i)
-of_id_in [] i h = cc
-of_id_in (p ∷ os) i h = go (same_id i p.id) refl (of_id_in os i) h
-  where
-    go : (b : Bool) → same_id i p.id ≡ b → (has_id i (identifiers os) ≡ true → (o : Op) × Contains os o × (o.id ≡ i)) → has_id i (identifiers (p ∷ os)) ≡ true → (o : Op) × Contains (p ∷ os) o × (o.id ≡ i)
-    go true e ih h = (p, first_in p os, sym (same_id-true i p.id e))
-    go false e ih h = let x = ih (rw e at h) in (x.0, later_in x.0 p os x.1, x.2)
 
 made_held : (N : List State) (i : Id) → has_id i (made_ids N) ≡ true → (o : Op) × Contains (ops_held N) o × (o.id ≡ i)
 made_held [] i h = cc

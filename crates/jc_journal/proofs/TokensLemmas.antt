@@ -1,9 +1,7 @@
 -- About Parts: the tokens of members, and the line that they are; the tokens of the rules of a trace.
 use Rattle.std.proofs.Common.{◌≡◌, ◌≤◌, ℕ, ◌+◌, List, [], ◌∷◌, ◌++◌, length, take, flat_map, Result, Ok, Err, OnOk, append_assoc, refl, sym, ◌∙◌, ap, subst, arith}
 use Rattle.std.proofs.lemmas.Grind.{common_steps}
-use Rattle.std.proofs.lemmas.List.{append-nil}
 use Rattle.std.proofs.lemmas.List.Concat.{flat_map-append}
-use Rattle.json.specs.Json.{Json}
 use Rattle.json.specs.Print.{print}
 use Rattle.json.specs.Token.{Token}
 use Rattle.json.specs.Token as T

@@ -57,12 +57,7 @@ ids_float names ids = texts_float (map (λ i. id_text names i) ids)
 
 pub value_float : (v : Value) → has_float (value_data v) ≡ false
 value_float (V.Number s) = refl
-value_float (V.Str s) = refl
-value_float V.True = refl
-value_float V.False = refl
-value_float V.Null = refl
-value_float V.EmptyMap = refl
-value_float V.EmptyList = refl
+value_float _ = refl
 
 register_float : (names : List (List ℕ)) (r : Register) → has_float (register_data names r) ≡ false
 register_float names r = object_float (map (value_member names) r) (all-map (value_member names) (λ e. value_float e.1) r)

@@ -50,12 +50,7 @@ ids_lines names (i ∷ ids) = (tt, ids_lines names ids)
 
 value_line : (v : Value) → HasLineNumbers (dumped_value v)
 value_line (V.Number s) = (tt, tt)
-value_line (V.Str s) = tt
-value_line V.True = tt
-value_line V.False = tt
-value_line V.Null = tt
-value_line V.EmptyMap = tt
-value_line V.EmptyList = tt
+value_line _ = tt
 
 pairs_lines : (names : List (List ℕ)) (r : Register) → ItemsHaveLineNumbers (pair_items Named names r)
 pairs_lines names [] = tt
@@ -140,11 +135,7 @@ op_line names o = (
 
 command_lines : (event : Event) (A : State) → AreLineMembers (command_member event A)
 command_lines (E.Exec p) A = (tt, tt)
-command_lines (E.Send p) A = tt
-command_lines (E.Recv p q) A = tt
-command_lines (E.Take p q i) A = tt
-command_lines (E.Apply p i) A = tt
-command_lines (E.Done p) A = tt
+command_lines _ A = tt
 
 effects_lines : (names : List (List ℕ)) (effects : Option Differences) → AreLineMembers (effects_member names effects)
 effects_lines names None = tt
@@ -153,10 +144,7 @@ effects_lines names (Some x) = (places_lines names x, tt)
 sender_lines : (names : List (List ℕ)) (event : Event) → AreLineMembers (sender_member names event)
 sender_lines names (E.Recv p q) = (tt, tt)
 sender_lines names (E.Take p q i) = (tt, tt)
-sender_lines names (E.Exec p) = tt
-sender_lines names (E.Send p) = tt
-sender_lines names (E.Apply p i) = tt
-sender_lines names (E.Done p) = tt
+sender_lines names _ = tt
 
 new_lines : (names : List (List ℕ)) (new : Option (List Id)) → AreLineMembers (new_member names new)
 new_lines names None = tt

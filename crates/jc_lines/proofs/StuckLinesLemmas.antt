@@ -60,11 +60,7 @@ offered_lines names refusal (Some i) network = listed (refusal == refusal_number
 
 missing_lines : (names : List (List ℕ)) (refusal : ℕ) (event : Event) (network : List State) → AreLineMembers (missing_member names refusal event network)
 missing_lines names refusal (E.Apply p i) network = listed (refusal == refusal_number F.DepsMissing) (codes "missing") (map (λ j. id_text names j) (missing_ids (slice_get network p) i))
-missing_lines names refusal (E.Exec p) network = tt
-missing_lines names refusal (E.Send p) network = tt
-missing_lines names refusal (E.Recv p q) network = tt
-missing_lines names refusal (E.Take p q i) network = tt
-missing_lines names refusal (E.Done p) network = tt
+missing_lines names refusal _ network = tt
 
 stuck_lines : (names : List (List ℕ)) (given : Bool) (n : ℕ) (network : List State) (why : Cause) (event : Event) → AreLineMembers (stuck_members names given n network why event)
 stuck_lines names given n network why event =

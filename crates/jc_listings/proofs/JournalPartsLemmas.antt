@@ -10,24 +10,22 @@ use Rattle.jc_rules.specs.declared.limits.TheConstants.{MAX_EVENTS}
 use Rattle.jc_rules.specs.declared.operation.Event.{Event}
 use Rattle.jc_rules.specs.declared.rule.Rule.{Rule}
 use Rattle.jc_rules.specs.History.{begun}
-use Rattle.jc_rules.specs.Refused.{Cause, IsStuckIn}
+use Rattle.jc_rules.specs.Refused.{Cause}
 use Rattle.jc_rules.specs.Step.{Network, StepIn, AfterIn}
 use Rattle.jc_rules.proofs.VersionLemmas.{one_step_in, stuck_in_has_none}
 use Rattle.jc_printer.specs.Canon.{AreNamed}
 use Rattle.jc_scenario.specs.WellFormed.{Scenario, IsWellFormedScenario}
 use Rattle.jc_network.specs.declared.fault.Stuck.{Stuck}
-use Rattle.jc_network.specs.Given.{before_given, IsBeforeGiven}
+use Rattle.jc_network.specs.Given.{before_given}
 use Rattle.jc_network.specs.NetworkHistory.{NetworkHistory}
-use Rattle.jc_network.specs.Steps.{IsStuckFor, stuck_for}
+use Rattle.jc_network.specs.Steps.{IsStuckFor}
 use Rattle.jc_network.proofs.AfterLemmas.{after_one_more}
 use Rattle.jc_network.proofs.GivenLemmas.{led_or_stuck}
-use Rattle.jc_dump.specs.Lines.{IsNamedStuck}
 use Rattle.jc_effects.specs.declared.effects.Effects.{Effects}
 use Rattle.jc_effects.specs.Difference.{Differences}
 use Rattle.jc_journal.specs.Parts.{differences_in, differences_at}
 use Rattle.jc_journal.specs.declared.event.NumberedEvent.{NumberedEvent}
 use Rattle.jc_journal.specs.EventLine.{AreEffects, event_line}
-use Rattle.jc_journal.specs.StuckLine.{stuck_event_line}
 use Rattle.jc_answers.specs.declared.arrays.ArrayText.{ArrayText}
 use Rattle.jc_answers.specs.JsonTexts.{unended, array_text}
 use Rattle.jc_answers.specs.Parts.{HasItems}
@@ -77,19 +75,6 @@ line_moved details names others next old other new last text p q r h =
     subst (λ (ns : List (List ℕ)). IsLineMade details ns next other last text) p
     (subst (λ (n : Network). IsLineMade details names next n last text) q
     (subst (λ (n : Network). IsLineMade details names next old n text) (sym r) h))
-
--- that of one that is stuck
-pub stuck_named : (names : List (List ℕ)) (network : Network) (event : Event) (s : Stuck) → IsStuckFor network event s → AreNamed event (length names) → IsNamedStuck names s
-stuck_named names network event s x named = record { why = x.why; event = event; is = x.is; named = named }
-
-pub stuck_told : (names : List (List ℕ)) (next : NumberedEvent) (network : Network) (s : Stuck) (line text : List ℕ) → IsStuckFor network next.event s
-    → ((why : Cause) → s ≡ stuck_for why s.event → line ≡ stuck_event_line names next.given next.number network.states why s.event)
-    → text ≡ unended line
-    → IsLineStuck names next network text
-stuck_told names next network s line text x h cut =
-    let own : s.event ≡ next.event = ap (λ (t : Stuck). t.event) x.is in
-    let told : line ≡ stuck_event_line names next.given next.number network.states x.why next.event = h x.why (x.is ∙ ap (stuck_for x.why) (sym own)) ∙ ap (stuck_event_line names next.given next.number network.states x.why) own in
-    (x.why, x.stuck, cut ∙ ap unended told)
 
 -- ---- what can be made
 
@@ -198,10 +183,6 @@ pub record LinesHere (details : Details) (s : Scenario) (schedule : List Event) 
 abbrev pub AreListed : Details → Scenario → List Event → ℕ → ℕ → Network → ArrayText → Type 0
 AreListed details s schedule first last start a =
     (texts : List (List ℕ)) × AreLines details s first start (events_between s schedule first last) texts × HasItems a texts
-
-pub lines_begin : (details : Details) (s : Scenario) (schedule : List Event) (first last : ℕ) (here other : NetworkHistory) (a : ArrayText) → AreTwins here other → here.names ≡ s.names → HasItems a [] → LinesHere details s schedule first last here.history.now first here other a
-lines_begin details s schedule first last here other a twins names empty =
-    record { twins = twins; names = names; lines = record { texts = []; listed = empty; goes = λ rest h. h } }
 
 made_of : (details : Details) (names : List (List ℕ)) (next : NumberedEvent) (old new : Network) (is_stuck : Bool) (text : List ℕ) → is_stuck ≡ false → IsNextLine details names next old new is_stuck text → IsLineMade details names next old new text
 made_of details names next old new false text is h = h

@@ -17,7 +17,7 @@ use Rattle.jc_rules.specs.declared.key.Tagged.TheVariants.{MapT, ListT, RegT}
 use Rattle.jc_rules.specs.Context.{Context, context, next, with_next}
 use Rattle.jc_rules.specs.ContextsAt.{with_node_at, node_at}
 use Rattle.jc_rules.specs.WellFormed.{AreDistinct, chain_of, elements}
-use Rattle.jc_rules.proofs.BoolLemmas.{neither, or_false}
+use Rattle.jc_rules.proofs.BoolLemmas.{neither, or_false, and_false}
 use Rattle.jc_tree.proofs.LinkedLemmas.{last_of}
 use Rattle.jc_meaning.specs.Effects.{same_path, list_at, is_insert}
 use Rattle.jc_meaning.specs.Seen.{seen, ids_at, value_seen_at, has_tag}
@@ -200,10 +200,6 @@ no_elements (i ∷ is) e = let z : To i ≡ Tail = cc in absurd (let f : ⊥ = c
 
 listed_still : (O : List Op) (P : List Tagged) (c d : Context) → ((k : Key) → next k (seen P d) ≡ next k (seen P c)) → (is : List Id) × IsListing O P is × ((k : Key) → next k (seen P c) ≡ follow K.Head is k) → (is : List Id) × IsListing O P is × ((k : Key) → next k (seen P d) ≡ follow K.Head is k)
 listed_still O P c d e x = (x.0, x.1, λ k. e k ∙ x.2 k)
-
-and_false : (b : Bool) → (b && false) ≡ false
-and_false true = refl
-and_false false = refl
 
 first_none : (a x y : Bool) → (a && (x || y)) ≡ false → (a && x) ≡ false
 first_none true true y e = cc

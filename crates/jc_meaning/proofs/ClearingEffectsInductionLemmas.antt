@@ -22,7 +22,7 @@ use Rattle.jc_rules.specs.Table.{least, lesser}
 use Rattle.jc_rules.specs.declared.rule.Rule.{Rule}
 use Rattle.jc_rules.specs.declared.rule.Rule.TheVariants as R
 use Rattle.jc_rules.specs.Derivation.{Operate, Child, AddId, Presence, Clear, ClearAny, ClearElem, ClearMap, ClearList, Answer, ToIds, Cleared, Judgement, gives}
-use Rattle.jc_rules.specs.Table.{Follows, Holds, AllHold, moved, kept, is_done, least_left, IsBefore, op_of}
+use Rattle.jc_rules.specs.Table.{Follows, kept, is_done}
 use Rattle.jc_rules.specs.WellFormed.{LeadsThrough, elements}
 use Rattle.jc_rules.proofs.IdsLemmas.{has_id-union}
 use Rattle.jc_rules.proofs.BoolLemmas.{first_true}

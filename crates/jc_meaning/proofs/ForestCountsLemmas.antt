@@ -22,15 +22,11 @@ count_key _ js = 0
 
 pub count_key_append : (q : Key) (js ks : List Id) → count_key q (js ++ ks) ≡ count_key q js + count_key q ks
 count_key_append (K.Elem j) js ks = count_append j js ks
-count_key_append K.Doc js ks = omega arith
-count_key_append K.Head js ks = omega arith
-count_key_append (K.Name s) js ks = omega arith
+count_key_append _ js ks = omega arith
 
 count_key_cons : (q : Key) (j : Id) (js : List Id) → count_key q (j ∷ js) ≡ one_if (same_key q (K.Elem j)) + count_key q js
 count_key_cons (K.Elem i) j js = refl
-count_key_cons K.Doc j js = refl
-count_key_cons K.Head j js = refl
-count_key_cons (K.Name s) j js = refl
+count_key_cons _ j js = refl
 
 sums : (a a2 b b2 c d e x y : ℕ) → b ≡ c + x → d ≡ e + y → a + e ≡ a2 → a + (b + d) ≡ a2 + (c + (x + y))
 sums a a2 b b2 c d e x y h k l = omega (arith, h, k, l)
@@ -45,9 +41,7 @@ module _ (at : Key → Id → Bool) (i : Id) (q : Key)
     where
       nothing : (q : Key) → one_if (same_key q k && is_under i b) + count_key q [] ≡ one_if (same_key q k && is_under i b)
       nothing (K.Elem j) = omega arith
-      nothing K.Doc = omega arith
-      nothing K.Head = omega arith
-      nothing (K.Name s) = omega arith
+      nothing _ = omega arith
 
       none_here : (x y : Bool) → at k i ≡ x → is_under i b ≡ y → 0 ≡ one_if (x && y)
       none_here true true e g = absurd (h i e g)

@@ -243,12 +243,7 @@ kept_place path slice c d a i v e p h g =
 
 primitive_is : (v : Value) → primitive v ≡ cond (is_some (primitive v)) (Some v) None
 primitive_is (V.Number t) = refl
-primitive_is (V.Str t) = refl
-primitive_is V.True = refl
-primitive_is V.False = refl
-primitive_is V.Null = refl
-primitive_is V.EmptyMap = refl
-primitive_is V.EmptyList = refl
+primitive_is _ = refl
 
 pub brings_is : (O : List Op) (o : Op) (k : Key) (v : Value) → k ≡ target o → value_in o.mutation ≡ Some v → (P : List Tagged) (l : Key) (i : Id)
     → cond (key_here o.cursor.path k P l && (same_id i o.id && (is_some (primitive v) && not (is_gone O o.cursor.path k o.id)))) (Some v) None ≡ brings_value O o P l i

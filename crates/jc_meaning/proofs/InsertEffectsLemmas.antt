@@ -19,7 +19,7 @@ use Rattle.jc_rules.specs.Ids.{has_id, with_id}
 use Rattle.jc_rules.specs.Context.{Context, context, Node, Values, content, with_content, with_presence, next, with_next, key_of_tagged, IsPrimitive}
 use Rattle.jc_rules.specs.declared.rule.Rule.{Rule}
 use Rattle.jc_rules.specs.declared.rule.Rule.TheVariants as R
-use Rattle.jc_rules.specs.Derivation.{Question, Occur, Run, Evaluate, SelectIndex, SelectKeys, SelectValues, Make, ApplyOp, Operate, Child, AddId, Presence, Clear, ClearAny, ClearElem, ClearMap, ClearList, Answer, ToContext, ToContent, ToIds, Cleared, Judgement, gives}
+use Rattle.jc_rules.specs.Derivation.{Question, Operate, Child, AddId, Presence, Clear, ClearAny, ClearElem, ClearMap, ClearList, Answer, ToContext, ToContent, ToIds, Cleared, Judgement, gives}
 use Rattle.jc_rules.specs.Table.{Follows, moved, IsBefore}
 use Rattle.jc_rules.proofs.OrderLemmas.{keys_total, exact_keys}
 use Rattle.jc_rules.proofs.EntriesLemmas.{find-put}
@@ -225,14 +225,7 @@ step r (Presence c k) a js h hs = presence_case r c k a js h
 step r (Operate c o) a js h hs = operate_case r c o a js h hs
 step r (Child c t) a js h hs = child_case r c t a js h
 step r (AddId c t i m) a js h hs = add_case r c t i m a js h hs
-step r (Occur A e read) a js h hs = tt
-step r (Run p A c) a js h hs = tt
-step r (Evaluate A e) a js h hs = tt
-step r (SelectIndex c cur i) a js h hs = tt
-step r (SelectKeys c cur) a js h hs = tt
-step r (SelectValues c cur) a js h hs = tt
-step r (Make p A cur m) a js h hs = tt
-step r (ApplyOp p A o) a js h hs = tt
+step r _ a js h hs = tt
 
 -- A derivation that clears a key takes exactly the deps from the presences and registers at the key and below it; tags, links and all else stay as they are seen.
 pub clears_elem : (b : Bool) (c d : Context) (deps s : List Id) (k : Key) → Tidy b c → IsAnswered (ClearElem c deps k) (Cleared d s) → TakesAway c d deps (in_key k) (in_key k) × ((i : Id) → has_id i s ≡ (has_id i (ids_at k c) && not (has_id i deps)))

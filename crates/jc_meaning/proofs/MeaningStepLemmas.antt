@@ -13,7 +13,7 @@ use Rattle.jc_rules.specs.Refused.{IsAnswered}
 use Rattle.jc_rules.specs.WellFormed.{LeadsThrough, chain_of}
 use Rattle.jc_rules.specs.Table.{is_done}
 use Rattle.jc_apply.specs.Fits as fits
-use Rattle.jc_apply.specs.Fits.{child_context, InChild}
+use Rattle.jc_apply.specs.Fits.{InChild}
 use Rattle.jc_network.specs.LinksEverywhere.{Reach}
 use Rattle.jc_network.proofs.LinksKeptLemmas.{operates}
 use Rattle.jc_rules.specs.declared.key.Next.TheVariants.{Tail}

@@ -16,7 +16,7 @@ use Rattle.jc_rules.specs.Sound.{IsInsert}
 use Rattle.jc_rules.specs.Table.{op_of}
 use Rattle.jc_rules.proofs.CoveredLemmas.{left_in}
 use Rattle.jc_network.proofs.MembersLemmas.{none_in, first_in, later_in, in_cons, op_in}
-use Rattle.jc_meaning.specs.Effects.{same_tagged, same_path, is_at_or_above, is_list_tag, list_at, is_insert}
+use Rattle.jc_meaning.specs.Effects.{same_tagged, same_path, is_at_or_above, list_at, is_insert}
 use Rattle.jc_meaning.specs.Meaning.{some_op, holds_of, names, hangs_at}
 use Rattle.jc_meaning.proofs.OrdersLemmas.{keys_eq, keys_self}
 use Rattle.jc_meaning.proofs.TagsLemmas.{tags_eq}
@@ -72,10 +72,6 @@ list_path (ListT l ∷ []) h = ([], l, refl)
 list_path (MapT l ∷ []) h = cc
 list_path (RegT l ∷ []) h = cc
 list_path (t ∷ u ∷ us) h = let r = list_path (u ∷ us) h in (t ∷ r.0, r.1, ap (λ x. t ∷ x) r.2)
-
-pub ends_in_list : (b : Bool) (above : List Tagged) (l : Key) → list_at b (above ++ ListT l ∷ []) ≡ true
-ends_in_list b [] l = refl
-ends_in_list b (t ∷ ts) l = ends_in_list (is_list_tag t) ts l
 
 pub is_above : (P : List Tagged) (k : Key) (Q : List Tagged) (q : Key) → is_at_or_above P k Q q ≡ true → IsAtOrAbove P k Q q
 is_above [] k [] q h = ([], refl, sym (keys_eq k q h))

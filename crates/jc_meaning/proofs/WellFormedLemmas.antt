@@ -18,7 +18,7 @@ use Rattle.jc_rules.specs.Order.{key_cmp, id_cmp}
 use Rattle.jc_rules.specs.Entries.{find, put}
 use Rattle.jc_rules.specs.Ids.{AreRising, has_id, with_id, union, without}
 use Rattle.jc_rules.specs.Context.{Context, context, listed, Register, IsPrimitive, Content, Node, Values, node_of, values_of, maps, lists, content, with_content, with_next, key_of_tagged}
-use Rattle.jc_rules.specs.Derivation.{Question, Occur, Run, Evaluate, SelectIndex, SelectKeys, SelectValues, Make, ApplyOp, Operate, Child, AddId, Presence, Clear, ClearAny, ClearElem, ClearMap, ClearList, Answer, ToContext, ToContent, ToIds, Cleared, Judgement, gives}
+use Rattle.jc_rules.specs.Derivation.{Question, Operate, Child, AddId, Presence, Clear, ClearAny, ClearElem, ClearMap, ClearList, Answer, ToContext, ToContent, ToIds, Cleared, Judgement, gives}
 use Rattle.jc_rules.specs.Refused.{IsAnswered}
 use Rattle.jc_rules.specs.WellFormed.{IsWellFormedContext, IsWellFormedRegister}
 use Rattle.jc_rules.specs.Table as Table
@@ -204,14 +204,7 @@ step r (Presence c k) a js h hs = presence_case r c k a js h
 step r (Operate c o) a js h hs = operate_case r c o a js h hs
 step r (Child c t) a js h hs = child_case r c t a js h
 step r (AddId c t i m) a js h hs = add_case r c t i m a js h hs
-step r (Occur A e read) a js h hs = tt
-step r (Run p A c) a js h hs = tt
-step r (Evaluate A e) a js h hs = tt
-step r (SelectIndex c cur i) a js h hs = tt
-step r (SelectKeys c cur) a js h hs = tt
-step r (SelectValues c cur) a js h hs = tt
-step r (Make p A cur m) a js h hs = tt
-step r (ApplyOp p A o) a js h hs = tt
+step r _ a js h hs = tt
 
 -- a derivation of an operation leads from a kept context to one
 pub operated_kept : (c d : Context) (o : Op) → IsWellFormedContext c → IsAnswered (Operate c o) (ToContext d) → IsWellFormedContext d

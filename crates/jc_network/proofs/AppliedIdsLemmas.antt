@@ -20,7 +20,7 @@ use Rattle.jc_network.proofs.EnabledOrderLemmas.{ordered}
 use Rattle.jc_network.proofs.MembersLemmas.{none_in, first_in, later_in, in_cons}
 use Rattle.jc_rules.proofs.BoolLemmas.{same_tests, or_right}
 
-id_in : (os : List Op) (o : Op) → Contains os o → has_id o.id (identifiers os) ≡ true
+pub id_in : (os : List Op) (o : Op) → Contains os o → has_id o.id (identifiers os) ≡ true
 id_in [] o k = none_in o k
 id_in (p ∷ os) o k = go (in_cons o p os k) (id_in os o)
   where
@@ -28,7 +28,7 @@ id_in (p ∷ os) o k = go (in_cons o p os k) (id_in os o)
     go (inl s) ih = subst (λ (x : Op). has_id o.id (identifiers (x ∷ os)) ≡ true) (sym s) (rw (same_id-self o.id) refl)
     go (inr m) ih = or_right (same_id o.id p.id) (has_id o.id (identifiers os)) (ih m)
 
-of_id_in : (os : List Op) (i : Id) → has_id i (identifiers os) ≡ true → (o : Op) × Contains os o × (o.id ≡ i)
+pub of_id_in : (os : List Op) (i : Id) → has_id i (identifiers os) ≡ true → (o : Op) × Contains os o × (o.id ≡ i)
 of_id_in [] i h = cc
 of_id_in (p ∷ os) i h = go (same_id i p.id) refl (of_id_in os i) h
   where

@@ -14,7 +14,7 @@ use Rattle.jc_rules.specs.declared.operation.Event.{Event}
 use Rattle.jc_rules.specs.Order.{key_cmp}
 use Rattle.jc_rules.specs.Entries.{find, put}
 use Rattle.jc_rules.specs.Ids.{has_id, greatest}
-use Rattle.jc_rules.specs.Context.{Context, context, Children, no_child, child, empty_list}
+use Rattle.jc_rules.specs.Context.{Context, context, Children, no_child, child}
 use Rattle.jc_rules.specs.WellFormed.{IsChained, AreChained, AreLists, IsChainedList}
 use Rattle.jc_rules.specs.State.{State}
 use Rattle.jc_rules.specs.Step.{After, replica_of}
@@ -22,7 +22,7 @@ use Rattle.jc_rules.specs.Syntax.{Cmd}
 use Rattle.jc_rules.specs.Derivation.{Operate, ToContext}
 use Rattle.jc_rules.specs.Refused.{IsAnswered}
 use Rattle.jc_tree.proofs.LinkedLemmas.{linked}
-use Rattle.jc_tree.proofs.ChainedLemmas.{chain-same}
+use Rattle.jc_tree.proofs.ChainedLemmas.{chain-same, new_list_chained}
 use Rattle.jc_apply.specs.Fits.{IsUnlinked, AreUnlinked}
 use Rattle.jc_apply.proofs.UnlinkedLemmas.{no_next}
 use Rattle.jc_network.specs.LinksEverywhere.{LinksHold, LinksAt, links_below, Everywhere, InMaps, InLists}
@@ -113,9 +113,6 @@ mutual
   deep_lists : (j : Key) (cs : Children) → InLists (links_below (ListT j) ChainedAt) cs → AreLists cs
   deep_lists j no_child h = tt
   deep_lists j (child k c cs) h = (chained_list k c h.0, deep_lists j cs h.1)
-
-new_list_chained : IsChainedList empty_list
-new_list_chained = (([], record { leads = refl; distinct = (tt, tt); no_other = ((0, omega arith, refl), tt) }), tt, tt)
 
 chained_new : OfNew ChainedAt
 chained_new [] k = (refl, new_list_chained)

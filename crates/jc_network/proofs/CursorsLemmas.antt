@@ -18,7 +18,7 @@ use Rattle.jc_rules.specs.ContextsAt.{IsAtOrAbove, first_key}
 use Rattle.jc_rules.specs.Context.{Context, Node, content, next, links, key_of_tagged}
 use Rattle.jc_rules.specs.State.{State, Bound, ACursor}
 use Rattle.jc_rules.specs.Syntax.{Expr, TheDoc, Variable, GetKey, Index, KeysOf, ValuesOf}
-use Rattle.jc_rules.specs.Derivation.{Question, Occur, Run, Evaluate, SelectIndex, SelectKeys, SelectValues, Make, ApplyOp, Operate, Child, AddId, Presence, Clear, ClearAny, ClearElem, ClearMap, ClearList, Answer, ToBound, ToCursor, Judgement, gives}
+use Rattle.jc_rules.specs.Derivation.{Question, Evaluate, SelectIndex, Answer, ToBound, ToCursor, Judgement, gives}
 use Rattle.jc_rules.specs.Table.{Follows, cursor}
 use Rattle.jc_rules.specs.Refused.{IsAnswered}
 use Rattle.jc_rules.proofs.OrderLemmas.{names_total, exact_names}
@@ -192,21 +192,7 @@ evaluate_case _ A e a js h hs = absurd h
 step : (r : Rule) (q : Question) (a : Answer) (js : List Judgement) → Follows r q a js → All Motive js → Motive (gives q a)
 step r (SelectIndex c cur i) a js h hs = select_case r c cur i a js h hs
 step r (Evaluate A e) a js h hs = evaluate_case r A e a js h hs
-step r (Operate c o) a js h hs = tt
-step r (Child c t) a js h hs = tt
-step r (AddId c t i m) a js h hs = tt
-step r (Clear c deps t) a js h hs = tt
-step r (ClearAny c deps k) a js h hs = tt
-step r (ClearElem c deps k) a js h hs = tt
-step r (ClearMap c deps done) a js h hs = tt
-step r (ClearList c deps k) a js h hs = tt
-step r (Occur A e read) a js h hs = tt
-step r (Run p A c) a js h hs = tt
-step r (SelectKeys c cur) a js h hs = tt
-step r (SelectValues c cur) a js h hs = tt
-step r (Make p A cur m) a js h hs = tt
-step r (ApplyOp p A o) a js h hs = tt
-step r (Presence c k) a js h hs = tt
+step r _ a js h hs = tt
 
 -- what an expression gives is rooted
 pub evaluated : (In : Op → Type 0) (A : State) (e : Expr) (b : Bound) → IsKnown In A → IsAnswered (Evaluate A e) (ToBound b) → IsRootedBound In A.ops b

@@ -562,11 +562,7 @@ StepsOrStuckIn N event = HasStep N event ⊎ IsAnyStuck N event
 allowed_or_not : (event : Event) (version : Version) → Allows event version ⊎ (Allows event version → ⊥)
 allowed_or_not (Take p q i) One = inr (λ a. a)
 allowed_or_not (Take p q i) Two = inl tt
-allowed_or_not (Exec p) version = inl tt
-allowed_or_not (Send p) version = inl tt
-allowed_or_not (Recv p q) version = inl tt
-allowed_or_not (Apply p i) version = inl tt
-allowed_or_not (Done p) version = inl tt
+allowed_or_not _ version = inl tt
 
 pub decided_in : (N : Network) → ((event : Event) → StepsOrStuck N.states event) → (event : Event) → StepsOrStuckIn N event
 decided_in N decided event = go (allowed_or_not event N.version) (decided event)

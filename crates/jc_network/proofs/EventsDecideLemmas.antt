@@ -201,9 +201,7 @@ with_cursor kind q A e f w (inl (Pairs vs, s)) k = inr (because F.NotACursor, no
 
 head_or_not : (k : Key) → (k ≡ K.Head) ⊎ (k ≢ K.Head)
 head_or_not K.Head = inl refl
-head_or_not K.Doc = inr (λ e. cc)
-head_or_not (K.Name s) = inr (λ e. cc)
-head_or_not (K.Elem i) = inr (λ e. cc)
+head_or_not _ = inr (λ e. cc)
 
 module _ (In : Op → Type 0) (A : State) (known : IsKnown In A) (good : IsGood A.tree) where
   plain : (e : Expr) (cur : Cursor) → IsAnswered (Evaluate A e) (ToBound (ACursor cur)) → AllByRecursion HasContext cur.path
@@ -261,10 +259,7 @@ module _ (In : Op → Type 0) (A : State) (known : IsKnown In A) (good : IsGood 
 
 pub yield_or_not : (c : Cmd) → (c ≡ Yield) ⊎ (c ≢ Yield)
 yield_or_not Yield = inl refl
-yield_or_not (LetIn x e) = inr (λ f. cc)
-yield_or_not (SetTo e v) = inr (λ f. cc)
-yield_or_not (InsertAfter e v) = inr (λ f. cc)
-yield_or_not (DeleteAt e) = inr (λ f. cc)
+yield_or_not _ = inr (λ f. cc)
 
 in_or_not : (s t : List Id) → AreIn s t ⊎ (AreIn s t → ⊥)
 in_or_not [] t = inl (λ i h. let f : false ≡ true = h in cc)

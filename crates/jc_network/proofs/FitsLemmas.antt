@@ -19,7 +19,7 @@ use Rattle.jc_rules.specs.Context.{Context, Node, content, next}
 use Rattle.jc_rules.specs.Sound.{IsInsert}
 use Rattle.jc_rules.specs.State.{State}
 use Rattle.jc_rules.specs.Syntax.{Expr, Cmd, Yield}
-use Rattle.jc_rules.specs.Derivation.{Question, Occur, Run, Evaluate, SelectIndex, SelectKeys, SelectValues, Make, ApplyOp, Operate, Child, AddId, Presence, Clear, ClearAny, ClearElem, ClearMap, ClearList, ToContent}
+use Rattle.jc_rules.specs.Derivation.{Question, Occur, Operate, Child, ToContent}
 use Rattle.jc_rules.specs.Table.{op_of, moved}
 use Rattle.jc_rules.specs.Refused.{Cause, IsAnswered, first_expr, Refused, no_command, at_yield, in_command, no_yield, not_at_yield, not_acted, not_received, not_offered, already_applied, deps_missing, in_received, in_first, not_a_cursor, in_making, in_made, in_applied, unbound, get_on_head, get_too_deep, index_too_deep, in_index, in_keys, in_values, index_no_node, keys_no_node, values_no_node, index_below, keys_below, values_below, past_end, in_counted, in_passed, no_map, no_register, operate_below, not_in_list, insert_later, IsStuck, no_replica, no_sender, refused}
 use Rattle.jc_network.specs.LinksEverywhere.{LinksAt, Everywhere, Reach}
@@ -50,44 +50,17 @@ Never _ = Unit {0}
 
 first_never : (q : Question) (A : State) (e : Expr) → first_expr q ≡ Some (A, e) → Never q
 first_never (Occur B (E.Apply p i) read) A e h = cc
-first_never (Occur B (E.Exec p) read) A e h = tt
-first_never (Occur B (E.Send p) read) A e h = tt
-first_never (Occur B (E.Recv p q) read) A e h = tt
-first_never (Occur B (E.Take p q i) read) A e h = tt
-first_never (Occur B (E.Done p) read) A e h = tt
-first_never (Run p B c) A e h = tt
-first_never (Evaluate B d) A e h = tt
-first_never (SelectIndex c cur i) A e h = tt
-first_never (SelectKeys c cur) A e h = tt
-first_never (SelectValues c cur) A e h = tt
-first_never (Make p B cur m) A e h = tt
-first_never (ApplyOp p B o) A e h = tt
 first_never (Operate c o) A e h = cc
-first_never (Child c t) A e h = tt
-first_never (AddId c t i m) A e h = tt
-first_never (Presence c k) A e h = tt
-first_never (Clear c deps t) A e h = tt
-first_never (ClearAny c deps k) A e h = tt
-first_never (ClearElem c deps k) A e h = tt
-first_never (ClearMap c deps done) A e h = tt
-first_never (ClearList c deps k) A e h = tt
+first_never _ A e h = tt
 
 -- what needs no yield, at one
 no_yield_never : (A : State) (event : Event) (read : List Op) → A.left ≡ [] → Never (Occur A event read)
 no_yield_never A (E.Apply p i) read e = λ rest o f x y z u v. let g : [] ≡ Yield ∷ rest = sym e ∙ f in cc
-no_yield_never A (E.Exec p) read e = tt
-no_yield_never A (E.Send p) read e = tt
-no_yield_never A (E.Recv p q) read e = tt
-no_yield_never A (E.Take p q i) read e = tt
-no_yield_never A (E.Done p) read e = tt
+no_yield_never A _ read e = tt
 
 not_at_never : (A : State) (event : Event) (read : List Op) (c : Cmd) (rest : List Cmd) → A.left ≡ c ∷ rest → c ≢ Yield → Never (Occur A event read)
 not_at_never A (E.Apply p i) read c rest e n = λ more o f x y z u v. n (let g : c ∷ rest ≡ Yield ∷ more = sym e ∙ f in cc)
-not_at_never A (E.Exec p) read c rest e n = tt
-not_at_never A (E.Send p) read c rest e n = tt
-not_at_never A (E.Recv p q) read c rest e n = tt
-not_at_never A (E.Take p q i) read c rest e n = tt
-not_at_never A (E.Done p) read c rest e n = tt
+not_at_never A _ read c rest e n = tt
 
 below_never : (c : Context) (o : Op) (t : Tagged) (rest : List Tagged) (d : Context) → o.cursor.path ≡ t ∷ rest → IsAnswered (Child c t) (ToContent (Node d)) → Never (Operate d (moved o rest o.cursor.last o.mutation)) → Never (Operate c o)
 below_never c o t rest d path s n closed wants =

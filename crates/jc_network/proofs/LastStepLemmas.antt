@@ -2,18 +2,15 @@
 use Rattle.std.proofs.Common.{◌≡◌, ◌≢◌, ℕ, zero, suc, ◌+◌, ◌-◌, ◌<◌, ◌⊎◌, inl, inr, List, [], ◌∷◌, ◌++◌, length, take, Option, Some, None, IfSome, IfNone, option_map, reverse, map, slice_get, slice_set, refl, sym, ◌∙◌, ap, subst, arith}
 use Rattle.std.proofs.lemmas.Option.{same_Some, slice_get-map}
 use Rattle.jc_rules.specs.declared.version.Version.{Version}
-use Rattle.jc_rules.specs.History.{History, timeline}
 use Rattle.jc_rules.specs.State.{State}
-use Rattle.jc_rules.specs.Step.{Network}
 use Rattle.jc_vectors.specs.StoredStates.{stored_state}
 use Rattle.jc_replica.specs.declared.last_step.LastStep.{LastStep}
 use Rattle.jc_replica.specs.LastStep.{IsLastStep, HasLastStep}
 use Rattle.jc_replica.specs.ReplicaHistory.{ReplicaHistory}
-use Rattle.jc_network.specs.Abstract.{real}
-use Rattle.jc_network.specs.Invariant.{IsFromStart, IsNet}
+use Rattle.jc_network.specs.Invariant.{IsNet}
 use Rattle.jc_network.specs.LastStep.{NetHasLastStep}
-use Rattle.jc_network.specs.NetworkHistory.{NetworkHistory, of_version, kept_of, network_of, earlier_of, network_history_of}
-use Rattle.jc_network.proofs.InvariantLemmas.{now_reached, has_replica, IsBefore, undone, versions_before}
+use Rattle.jc_network.specs.NetworkHistory.{of_version, kept_of, network_of, earlier_of, network_history_of}
+use Rattle.jc_network.proofs.InvariantLemmas.{now_reached, has_replica, undone, versions_before}
 use Rattle.jc_network.proofs.MembersLemmas.{set_there, set_other}
 
 -- each replica's stored state is that of its state

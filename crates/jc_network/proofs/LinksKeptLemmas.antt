@@ -18,7 +18,7 @@ use Rattle.jc_rules.specs.Order.{key_cmp}
 use Rattle.jc_rules.specs.Entries.{find, put}
 use Rattle.jc_rules.specs.Context.{Context, Content, Node, Values, Register, content, with_content, with_presence, next, with_next, links, maps, lists, registers, node_of, values_of, key_of_tagged}
 use Rattle.jc_rules.specs.Sound.{IsInsert}
-use Rattle.jc_rules.specs.Derivation.{Question, Occur, Run, Evaluate, SelectIndex, SelectKeys, SelectValues, Make, ApplyOp, Operate, Child, AddId, Presence, Clear, ClearAny, ClearElem, ClearMap, ClearList, Answer, ToContext, ToContent, ToIds, Cleared, Judgement, gives}
+use Rattle.jc_rules.specs.Derivation.{Question, Operate, Child, AddId, Presence, Clear, ClearAny, ClearElem, ClearMap, ClearList, Answer, ToContext, ToContent, ToIds, Cleared, Judgement, gives}
 use Rattle.jc_rules.specs.Table.{Follows, moved, kept, after}
 use Rattle.jc_rules.specs.Refused.{IsAnswered}
 use Rattle.jc_network.specs.LinksEverywhere.{LinksHold, LinksAt, links_below, Everywhere, Reach}
@@ -282,15 +282,7 @@ step r (ClearAny c deps k) a js h hs = any_case r c deps k a js h hs
 step r (ClearElem c deps k) a js h hs = elem_case r c deps k a js h hs
 step r (ClearMap c deps done) a js h hs = map_case r c deps done a js h hs
 step r (ClearList c deps k) a js h hs = list_case r c deps k a js h hs
-step r (Occur A e read) a js h hs = tt
-step r (Run p A c) a js h hs = tt
-step r (Evaluate A e) a js h hs = tt
-step r (SelectIndex c cur i) a js h hs = tt
-step r (SelectKeys c cur) a js h hs = tt
-step r (SelectValues c cur) a js h hs = tt
-step r (Make p A cur m) a js h hs = tt
-step r (ApplyOp p A o) a js h hs = tt
-step r (Presence c k) a js h hs = tt
+step r _ a js h hs = tt
 
 -- what an answered operation did
 pub operates : (c : Context) (o : Op) (d : Context) → IsAnswered (Operate c o) (ToContext d) → Operates o.id o.cursor.path o.cursor.last o.mutation c d

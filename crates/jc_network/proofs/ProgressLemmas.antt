@@ -1,5 +1,5 @@
 -- Lemmas about progress: an operation that fits has an answer, and one that is due can be applied.
-use Rattle.std.proofs.Common.{◌≡◌, ◌≢◌, ℕ, List, [], ◌∷◌, Option, Some, None, true, false, ◌⊎◌, inl, inr, refl, sym, ◌∙◌, ap, subst, arith}
+use Rattle.std.proofs.Common.{◌≡◌, ◌≢◌, ℕ, List, [], ◌∷◌, Option, Some, None, true, false, ◌⊎◌, inl, inr, refl, sym, ◌∙◌, ap, subst}
 use Rattle.std.specs.List.{AllByRecursion}
 use Rattle.std.specs.declared.cmp.Ordering.{Ordering}
 use Rattle.std.specs.declared.cmp.Ordering.TheVariants.{Less, Equal, Greater}
@@ -34,6 +34,7 @@ use Rattle.jc_rules.proofs.OrderLemmas.{exact_ids}
 use Rattle.jc_tree.specs.ChainedBelow.{AreChainedBelow}
 use Rattle.jc_tree.proofs.ChainedBelowLemmas.{map_below, list_below, below-chained, below-list}
 use Rattle.jc_tree.proofs.ChainedLeadsLemmas.{leads_from}
+use Rattle.jc_tree.proofs.ChainedLemmas.{new_list_chained}
 use Rattle.jc_network.specs.LinksEverywhere.{Reach}
 use Rattle.jc_apply.specs.Fits.{content_or_new, child_context, InChild}
 use Rattle.jc_rules.specs.ContextsAt.{node_in}
@@ -59,9 +60,6 @@ good_map c h = record { below = below-chained c h; chain = λ k x e. no_links c 
 
 pub good_list : (c : Context) → IsChainedList c → IsGood c
 good_list c h = record { below = below-list c h; chain = λ k x e. h }
-
-new_list_chained : IsChainedList empty_list
-new_list_chained = (([], record { leads = refl; distinct = (tt, tt); no_other = ((0, omega arith, refl), tt) }), tt, tt)
 
 -- what is entered is good
 pub record Entered (c : Context) (t : Tagged) : Type 0 where

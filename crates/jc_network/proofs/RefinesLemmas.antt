@@ -4,7 +4,7 @@ use Rattle.std.specs.List.{AllByRecursion}
 use Rattle.std.proofs.lemmas.Option.{same_Some}
 use Rattle.jc_rules.specs.declared.id.Id.{Id}
 use Rattle.jc_rules.specs.declared.operation.Event.{Event}
-use Rattle.jc_rules.specs.declared.operation.Event.TheVariants.{Exec, Send, Recv, Take, Apply, Done}
+use Rattle.jc_rules.specs.declared.operation.Event.TheVariants.{Exec, Recv, Take}
 use Rattle.jc_rules.specs.declared.operation.Op.{Op}
 use Rattle.jc_rules.specs.Refused.{Cause, IsStuck, refused}
 use Rattle.jc_rules.specs.State.{State, start}
@@ -54,11 +54,7 @@ set_else (x ∷ xs) (suc p) (suc q) b f = set_else xs p q b (λ e. f (ap suc e))
 -- what an event's promise asks, where all own operations are applied
 own_for : (event : Event) (set : List Op) (p : ℕ) (A : State) → HasOwn set p A → HasOwnFor event set p A
 own_for (Exec q) set p A h = h
-own_for (Send q) set p A h = tt
-own_for (Recv q r) set p A h = tt
-own_for (Take q r i) set p A h = tt
-own_for (Apply q i) set p A h = tt
-own_for (Done q) set p A h = tt
+own_for _ set p A h = tt
 
 -- ---- the start
 
@@ -138,10 +134,7 @@ module _ (set : List Op) (network kept : List State) (sound : HasSoundOps networ
   pub reads_stand : (event : Event) (read : List Op) → read_by event kept ≡ Some read → Reads set network event read
   reads_stand (Recv p q) read h = reads_sent p q read (slice_get kept q) refl h
   reads_stand (Take p q i) read h = reads_to_take p q i read (reads_sent p q read (slice_get kept q) refl h)
-  reads_stand (Exec p) read h = reads_nothing set network (Exec p) read refl h
-  reads_stand (Send p) read h = reads_nothing set network (Send p) read refl h
-  reads_stand (Apply p i) read h = reads_nothing set network (Apply p i) read refl h
-  reads_stand (Done p) read h = reads_nothing set network (Done p) read refl h
+  reads_stand event read h = reads_nothing set network event read refl h
 
   -- ---- the states after
 

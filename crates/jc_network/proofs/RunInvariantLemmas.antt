@@ -259,10 +259,7 @@ reads_made N (E.Take p q i) read w e x k = go (slice_get N q) refl e
     go : (o : Option State) → slice_get N q ≡ o → send_of o ≡ Some read → IsMadeOp N x
     go None f g = cc
     go (Some C) f g = (w.sets.sent q C x f (subst (λ s. Contains s x) (sym (same_Some C.send read g)) k)).1
-reads_made N (E.Exec p) read w e x k = none_in x (subst (λ s. Contains s x) (sym (same_Some [] read e)) k)
-reads_made N (E.Send p) read w e x k = none_in x (subst (λ s. Contains s x) (sym (same_Some [] read e)) k)
-reads_made N (E.Apply p i) read w e x k = none_in x (subst (λ s. Contains s x) (sym (same_Some [] read e)) k)
-reads_made N (E.Done p) read w e x k = none_in x (subst (λ s. Contains s x) (sym (same_Some [] read e)) k)
+reads_made N _ read w e x k = none_in x (subst (λ s. Contains s x) (sym (same_Some [] read e)) k)
 
 -- the one of a list of one
 one_is : (x o : Op) → Contains (o ∷ []) x → o ≡ x

@@ -126,10 +126,7 @@ no_state ps p l = slice_get_past (network_of ps) p (let m = as_many_states ps in
 nothing_read : (event : Event) (q : ℕ) (ps : List ReplicaHistory) → sender_of event ≡ Some q → length ps ≤ q → read_by event (network_of ps) ≡ None
 nothing_read (V.Recv p r) q ps is l = let s : r ≡ q = cc in ap send_of (no_state ps r (omega (arith, s, l)))
 nothing_read (V.Take p r i) q ps is l = let s : r ≡ q = cc in ap send_of (no_state ps r (omega (arith, s, l)))
-nothing_read (V.Exec p) q ps is l = cc
-nothing_read (V.Send p) q ps is l = cc
-nothing_read (V.Apply p i) q ps is l = cc
-nothing_read (V.Done p) q ps is l = cc
+nothing_read _ q ps is l = cc
 
 state_there : (ps : List ReplicaHistory) (p : ℕ) → p < length ps → (A : State) × (slice_get (network_of ps) p ≡ Some A)
 state_there ps p l = some_at (network_of ps) p (let m = as_many_states ps in omega (arith, l, m))
@@ -138,10 +135,7 @@ state_there ps p l = some_at (network_of ps) p (let m = as_many_states ps in ome
 some_read : (event : Event) (ps : List ReplicaHistory) → HasReplicas event ps → (read : List Op) × (read_by event (network_of ps) ≡ Some read)
 some_read (V.Recv p q) ps h = let x = state_there ps q (h.1 q refl) in (x.0.send, ap send_of x.1)
 some_read (V.Take p q i) ps h = let x = state_there ps q (h.1 q refl) in (x.0.send, ap send_of x.1)
-some_read (V.Exec p) ps h = ([], refl)
-some_read (V.Send p) ps h = ([], refl)
-some_read (V.Apply p i) ps h = ([], refl)
-some_read (V.Done p) ps h = ([], refl)
+some_read _ ps h = ([], refl)
 
 pub stopped : (version : Version) (scripts : List (List Cmd)) (first : List State) (event : Event) (ps : List ReplicaHistory) (why : Cause) → IsInRun version scripts first (network_of ps) (kept_of ps) → Stops version event ps why → IsStuckIn (of_version version (network_of ps)) event why
 stopped version scripts first event ps why run (stops_missing (inl l)) = replica_missing (no_state ps (replica_of event) l)

@@ -51,14 +51,6 @@ pub write_breaks : (is_broken : Bool) (more old : List ℕ) (a b : Stream) → i
 write_breaks true more old a b sound part first before h = cc
 write_breaks false more old a b sound part first before h = cut_more before more old first a b h part
 
--- an output that is broken takes nothing
-broken_by : (is_broken : Bool) (text held : List ℕ) (a : Stream) → is_broken ≡ true → (first : Stream) (before : List ℕ) → GaveBy is_broken before held first a → GaveBy is_broken (before ++ text) held first a
-broken_by false text held a is first before h = cc
-broken_by true text held a is first before h = part_of_longer first a before text h
-
-pub broken_adds : (o : OutState) (text : List ℕ) → o.is_broken ≡ true → (first : Stream) (before : List ℕ) → GaveText before first o → GaveText (before ++ text) first o
-broken_adds o text is first before h = broken_by o.is_broken text o.held o.stream is first before h
-
 -- what is held is what was held and the text
 pub hold_adds : (is_broken : Bool) (text old held : List ℕ) (a : Stream) → is_broken ≡ false → held ≡ old ++ text → (first : Stream) (before : List ℕ) → GaveBy is_broken before old first a → GaveBy is_broken (before ++ text) held first a
 hold_adds true text old held a sound is first before h = cc

@@ -13,10 +13,6 @@ use Rattle.jc_parser.specs.PartReaders.{items_at}
 abbrev pub with_front : {A : Type 0} → List A → ReadOutcome (List A) → ReadOutcome (List A)
 with_front front read = read >>= λ x. Ok (front ++ x.0, x.1)
 
-pub with_front-nil : {A : Type 0} (read : ReadOutcome (List A)) → with_front [] read ≡ read
-with_front-nil (Ok x) = refl
-with_front-nil (Err e) = refl
-
 pub items_done : {A : Type 0} (p : Symbol → Bool) (item : Reading → ReadOutcome A) (beyond : Reading → ScenarioFault) (n : ℕ) (r : Reading) (front : List A) → begins p r ≡ false → with_front front (items_at p item beyond n r) ≡ Ok (front, r)
 unfolding items_at
 items_done p item beyond zero r front none = rw none (ap (λ l. Ok (l, r)) (append-nil front))

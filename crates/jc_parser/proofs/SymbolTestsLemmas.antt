@@ -2,26 +2,14 @@
 use Rattle.std.proofs.Common.{◌≡◌, ℕ, ◌&&◌, List, refl}
 use Rattle.std.specs.Str.{bytes_eq}
 use Rattle.jc_syntax.specs.declared.token.TokenKind.{TokenKind}
-use Rattle.jc_syntax.specs.declared.token.TokenKind.TheVariants.{Name, Number, Str, Dot, ParenL, ParenR, BraceL, BraceR, BracketL, BracketR, Comma, Semi, Assign, Equals}
+use Rattle.jc_syntax.specs.declared.token.TokenKind.TheVariants.{Name, Number}
 use Rattle.jc_grammar.specs.Symbols.{symbol_of}
 use Rattle.jc_grammar.specs.SymbolTests.{is_reserved}
 use Rattle.jc_parser.specs.ReaderState.{kind_of_symbol, same_kind, is_word, is_number_symbol, reserved}
 
 pub kind_again : (k : TokenKind) (b c : List ℕ) → kind_of_symbol (symbol_of k b c) ≡ k
 kind_again Name b c = refl
-kind_again Number b c = refl
-kind_again Str b c = refl
-kind_again Dot b c = refl
-kind_again ParenL b c = refl
-kind_again ParenR b c = refl
-kind_again BraceL b c = refl
-kind_again BraceR b c = refl
-kind_again BracketL b c = refl
-kind_again BracketR b c = refl
-kind_again Comma b c = refl
-kind_again Semi b c = refl
-kind_again Assign b c = refl
-kind_again Equals b c = refl
+kind_again _ b c = refl
 
 pub word_test : (k : TokenKind) (b c w : List ℕ) → is_word w (symbol_of k b c) ≡ (same_kind k Name && bytes_eq b w)
 word_test Name b c w = refl

@@ -75,10 +75,6 @@ pub behind_last : (behind : Option NetworkHistory) (old new : NetworkHistory) �
 behind_last None old new b e = tt
 behind_last (Some c) old new b e = record { before = old.history.earlier; earlier = e ∙ ap (λ (N : Network). old.history.earlier ++ N ∷ []) (sym b.0) }
 
-pub behind_new : (behind : Option NetworkHistory) (old : Network) → IsBehind behind old → IfSome behind (λ c. c.history.earlier ≡ [])
-behind_new None old b = tt
-behind_new (Some c) old b = b.1
-
 -- once it has made the event it is at the network after it
 -- a network that made the event, and then keeps nothing to go back with
 pub catches_up : {E : Type 0} (event : Event) (old new after : NetworkHistory) (r : Result Rows E) → is_err r ≡ false → IfOk r (λ t. StepsTo old event new t) → after ≡ record new { history = begun new.history.now } → CatchesUp event (Some old) (Some after)

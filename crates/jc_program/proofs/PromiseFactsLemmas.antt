@@ -78,11 +78,9 @@ faultless_some law (w ∷ ws) free none = none_some none (law w ws free).1
 -- ---- what went out after a fault
 
 breaks_stop : (task : Task) (fault : WorkFault) (bytes : List ℕ) (told lines left : Option (List ℕ)) (old new : Stream) → AreTold told bytes → IsAlone task → Breaks task fault bytes lines left old new → IsStoppedCommand task fault told lines left old new
-breaks_stop (Show view) fault bytes told lines left old new is alone h = (bytes, is, h)
-breaks_stop Debug fault bytes told lines left old new is alone h = (bytes, is, h)
 breaks_stop Serve fault bytes told lines left old new is alone h = h
 breaks_stop (Threads limit) fault bytes told lines left old new is alone h = absurd alone
-breaks_stop (Weave seed limit) fault bytes told lines left old new is alone h = (bytes, is, h)
+breaks_stop _ fault bytes told lines left old new is alone h = (bytes, is, h)
 
 abbrev Stop : Files → World → World → WorkFault → Order → Type 0
 Stop files old new fault order =
@@ -106,26 +104,19 @@ complete_done (Threads limit) bytes told lines old new n alone is h = absurd alo
 complete_done (Weave seed limit) bytes told lines old new n alone is h = (bytes, is, h)
 
 pub complete_quiet : (task : Task) (bytes : List ℕ) (lines : Option (List ℕ)) (old new : World) (n : ℕ) → IsSilent task → Completes task bytes lines old new n → new.err ≡ old.err
-complete_quiet (Show view) bytes lines old new n silent h = h.1
-complete_quiet Debug bytes lines old new n silent h = h.1
-complete_quiet Serve bytes lines old new n silent h = h.1
 complete_quiet (Threads limit) bytes lines old new n silent h = absurd silent
 complete_quiet (Weave seed limit) bytes lines old new n silent h = absurd silent
+complete_quiet _ bytes lines old new n silent h = h.1
 
 pub unthreaded : (refused : SpawnRefused) (task : Task) (bytes : List ℕ) (lines left : Option (List ℕ)) (old new : Stream) → IsAlone task → Breaks task (NoThread refused) bytes lines left old new → ⊥
-unthreaded refused (Show view) bytes lines left old new alone h = h
-unthreaded refused Debug bytes lines left old new alone h = h
-unthreaded refused Serve bytes lines left old new alone h = h
 unthreaded refused (Threads limit) bytes lines left old new alone h = absurd alone
 unthreaded refused (Weave seed limit) bytes lines left old new alone h = h.1
+unthreaded refused _ bytes lines left old new alone h = h
 
 fault_ends : (fault : WorkFault) (n : ℕ) → n ≡ fault_status fault → n ≢ 4 → n ≢ 5 → ⊥
-fault_ends Read n e four five = four e
-fault_ends Write n e four five = four e
-fault_ends TooManyLines n e four five = four e
-fault_ends CutShort n e four five = four e
 fault_ends (NoThread refused) n e four five = five e
 fault_ends Memory n e four five = five e
+fault_ends _ n e four five = four e
 
 fault_no_refusal : (fault : WorkFault) (n : ℕ) → n ≡ fault_status fault → (n ≡ 1) ⊎ (n ≡ 3) → ⊥
 fault_no_refusal Read n e (inl one) = cc

@@ -41,27 +41,20 @@ completed (Weave seed limit) told lines old new n h quiet = h
 
 -- a fault stopped it
 broken : (task : Task) (fault : WorkFault) (told lines left : Option (List ℕ)) (old new : Stream) → IsAlone task → IsStoppedCommand task fault told lines left old new → (bytes : List ℕ) × AreTold told bytes × Breaks task fault bytes lines left old new
-broken (Show view) fault told lines left old new alone h = h
-broken Debug fault told lines left old new alone h = h
 broken Serve fault told lines left old new alone h = let b = some_bytes told in (b.0, b.1, h)
 broken (Threads limit) fault told lines left old new alone h = absurd alone
-broken (Weave seed limit) fault told lines left old new alone h = h
+broken _ fault told lines left old new alone h = h
 
 -- a task that isn't `Threads` is without threads
 pub alone_at : (task : Task) → ((limit : ℕ) → task ≡ Threads limit → ⊥) → IsAlone task
-alone_at (Show view) none = tt
-alone_at Debug none = tt
-alone_at Serve none = tt
 alone_at (Threads limit) none = absurd (none limit refl)
-alone_at (Weave seed limit) none = tt
+alone_at _ none = tt
 
 -- a task without threads that isn't `Weave` leaves standard error alone
 pub silent_at : (task : Task) → IsAlone task → ((seed limit : ℕ) → task ≡ Weave seed limit → ⊥) → IsSilent task
-silent_at (Show view) alone none = tt
-silent_at Debug alone none = tt
-silent_at Serve alone none = tt
 silent_at (Threads limit) alone none = absurd alone
 silent_at (Weave seed limit) alone none = absurd (none seed limit refl)
+silent_at _ alone none = tt
 
 -- ---- statuses
 

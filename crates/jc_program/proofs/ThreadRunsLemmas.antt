@@ -103,10 +103,7 @@ cause_of Read unread input_old input_new out_old out_new same h = absurd (none (
   none (inl more) = omega (arith, more)
   none (inr e) = e
 cause_of Write unread input_old input_new out_old out_new same h = (same, (h 0).1)
-cause_of TooManyLines unread input_old input_new out_old out_new same h = (same, (h 0).1)
-cause_of CutShort unread input_old input_new out_old out_new same h = (same, (h 0).1)
-cause_of (NoThread refused) unread input_old input_new out_old out_new same h = (same, (h 0).1)
-cause_of Memory unread input_old input_new out_old out_new same h = (same, (h 0).1)
+cause_of _ unread input_old input_new out_old out_new same h = (same, (h 0).1)
 
 -- ---- without memory nothing was written
 

@@ -1,12 +1,12 @@
 -- Lemmas about LastStep: what an undo record says of the states before and after its step.
-use Rattle.std.proofs.Common.{◌≡◌, ℕ, zero, suc, ◌-◌, ◌+◌, ◌<◌, ◌≤◌, List, [], ◌∷◌, ◌++◌, Bor, Bool, true, false, not, ◌||◌, filter, map, length, take, drop, slice_get, get_or, Some, eqb, leb, leb-true, refl, sym, ◌∙◌, ap, subst, arith}
+use Rattle.std.proofs.Common.{◌≡◌, ℕ, zero, suc, ◌-◌, ◌+◌, ◌<◌, ◌≤◌, List, [], ◌∷◌, ◌++◌, Bor, Bool, true, false, filter, map, length, take, drop, slice_get, get_or, Some, eqb, leb, leb-true, refl, sym, ◌∙◌, ap, subst, arith}
 use Rattle.std.proofs.lemmas.Option.{same_Some}
 use Rattle.jc_rules.specs.declared.id.Id.{Id}
 use Rattle.jc_rules.specs.declared.operation.Op.{Op}
 use Rattle.jc_rules.specs.Context.{Context}
 use Rattle.jc_rules.specs.History.{History, timeline}
 use Rattle.jc_rules.specs.State.{State}
-use Rattle.jc_rules.specs.Syntax.{Cmd, Yield}
+use Rattle.jc_rules.specs.Syntax.{Cmd}
 use Rattle.jc_rules.specs.Table.{op_of}
 use Rattle.jc_rules.specs.VersionVectors.{greatest_of, truncated}
 use Rattle.jc_syntax.specs.declared.tree.Cmd.{Cmd as CmdTree}
@@ -17,14 +17,12 @@ use Rattle.jc_replica.specs.declared.last_step.LastStep.TheVariants as L
 use Rattle.jc_replica.specs.declared.record.Change.{Change}
 use Rattle.jc_replica.specs.declared.record.Change.TheVariants as C
 use Rattle.jc_replica.specs.declared.record.Record.{Record}
-use Rattle.jc_replica.specs.Invariant.{IsGreatest, HasEnded, CanBack, IsReplica}
+use Rattle.jc_replica.specs.Invariant.{IsGreatest, HasEnded, CanBack}
 use Rattle.jc_replica.specs.LastStep.{IsLastStep, HasLastStep}
-use Rattle.jc_replica.specs.NextCommand.{IsMaking, IsLet}
-use Rattle.jc_replica.specs.Operations.{identifiers, AreInOrder}
+use Rattle.jc_replica.specs.Operations.{AreInOrder}
 use Rattle.jc_replica.specs.Received.{is_new}
 use Rattle.jc_replica.specs.ReplicaHistory.{ReplicaHistory}
-use Rattle.jc_replica.specs.Undo.{Held, state_of, states, undone_once, content_at, replica_history_of, without_ops}
-use Rattle.jc_replica.proofs.ReceivedLemmas.{rest_is}
+use Rattle.jc_replica.specs.Undo.{Held, state_of, states, undone_once, content_at, replica_history_of}
 use Rattle.jc_replica.proofs.ReceivedNewLemmas.{behind_new}
 use Rattle.jc_replica.proofs.ScriptLemmas.{stands}
 use Rattle.jc_replica.proofs.SendLemmas.{front_in_order}

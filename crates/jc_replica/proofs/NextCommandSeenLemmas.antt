@@ -55,11 +55,9 @@ wants_cursor p A (LetIn x e) m = absurd m
 wants_cursor p A Yield m = absurd m
 
 made_is : (c : Cmd) → IsMaking c → made_by c ≡ Some (expr_by c, mutation_by c)
-made_is (SetTo e v) m = refl
-made_is (InsertAfter e v) m = refl
-made_is (DeleteAt e) m = refl
 made_is (LetIn x e) m = absurd m
 made_is Yield m = absurd m
+made_is _ m = refl
 
 -- the event of such a command, from the derivation of its operation
 executed : (A : State) (p : ℕ) (c : Cmd) (rest : List Cmd) (cursor : Cursor) (tree : Context) (os : List Op) (t between w : Rows) → A.left ≡ c ∷ rest → IsMaking c → Derives (Evaluate A (expr_by c)) (ToBound (ACursor cursor)) (opened (opened t R.Exec) (rule_by c)) between → Derives (Operate A.tree (new_op p A.ops cursor (mutation_by c))) (ToContext tree) (opened (opened between R.MakeOp) R.ApplyLocal) w → Derives (Occur A (E.Exec p) os) (ToState (record (after_making (new_op p A.ops cursor (mutation_by c)) tree A) { left = rest })) t (at_depth t.depth w)
@@ -133,10 +131,7 @@ makes K p q next cursor mutation most deps r t t1 t2 t3 t4 t5 e1 e2 re x e4 e5 m
 -- which kind the next command is
 pub binds_next : (left rest : List Cmd) (c : Cmd) → left ≡ c ∷ rest → IsLet c → BindsNext left
 binds_next left rest (LetIn x e) l h = record { name = x; expr = e; rest = rest; next = l }
-binds_next left rest (SetTo e v) l h = absurd h
-binds_next left rest (InsertAfter e v) l h = absurd h
-binds_next left rest (DeleteAt e) l h = absurd h
-binds_next left rest Yield l h = absurd h
+binds_next left rest _ l h = absurd h
 
 pub makes_next : (left rest : List Cmd) (c : Cmd) → left ≡ c ∷ rest → c ≢ Yield → (IsLet c → ⊥) → MakesNext left
 makes_next left rest (LetIn x e) l y h = absurd (h tt)

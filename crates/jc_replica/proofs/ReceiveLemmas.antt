@@ -7,7 +7,7 @@ use Rattle.jc_rules.specs.declared.operation.Op.{Op}
 use Rattle.jc_rules.specs.declared.refusal.Refusal.TheVariants as F
 use Rattle.jc_rules.specs.declared.rule.Rule.TheVariants as R
 use Rattle.jc_rules.specs.Derivation.{Occur, ToState}
-use Rattle.jc_rules.specs.Refused.{because, not_offered, IsYieldEvent}
+use Rattle.jc_rules.specs.Refused.{because, not_offered}
 use Rattle.jc_rules.specs.State.{State}
 use Rattle.jc_rules.specs.Syntax.{Cmd, Yield}
 use Rattle.jc_rules.specs.Table.{both, op_of}

@@ -5,18 +5,17 @@ use Rattle.std.specs.declared.cmp.Ordering.TheVariants.{Less}
 use Rattle.std.proofs.lemmas.List.Elements.{filter-append}
 use Rattle.jc_rules.specs.declared.id.Id.{Id}
 use Rattle.jc_rules.specs.declared.operation.Op.{Op}
-use Rattle.jc_rules.specs.Ids.{has_id, with_id, without}
+use Rattle.jc_rules.specs.Ids.{has_id, without}
 use Rattle.jc_rules.specs.Order.{id_cmp, same_id}
 use Rattle.jc_rules.specs.Table.{both}
-use Rattle.jc_rules.proofs.BoolLemmas.{or_right}
+use Rattle.jc_rules.proofs.BoolLemmas.{or_right, or_assoc}
 use Rattle.jc_rules.proofs.IdsLemmas.{same_id-self, has_id-with, has_id-without, without-rises, same_members}
 use Rattle.jc_rules.proofs.OrderLemmas.{ids_total}
 use Rattle.jc_rules.proofs.RisingLemmas as rising
 use Rattle.jc_replica.specs.Operations.{identifiers, AreInOrder}
 use Rattle.jc_replica.specs.Received.{is_new}
-use Rattle.jc_replica.specs.Undo.{without_ops}
 use Rattle.jc_replica.proofs.ReceivedLemmas.{take-drop}
-use Rattle.jc_replica.proofs.ReceivedUnionLemmas.{identifiers-with, both-in_order, taken_out}
+use Rattle.jc_replica.proofs.ReceivedUnionLemmas.{identifiers-with, both-in_order}
 
 -- by their identifiers
 pub new_without : (os ps : List Op) → identifiers (filter (is_new os) ps) ≡ without (identifiers ps) (identifiers os)
@@ -74,10 +73,6 @@ behind_new n os h =
     ∙ rest_new (take n os) (drop n os) (subst AreInOrder (sym (take-drop n os)) h)
 
 -- ---- what is united is new where it wasn't there
-
-or_assoc : (a b c : Bool) → a || (b || c) ≡ (a || b) || c
-or_assoc true b c = refl
-or_assoc false b c = refl
 
 left_alone : (a b : Bool) → (a || b) && not b ≡ a && not b
 left_alone true true = refl

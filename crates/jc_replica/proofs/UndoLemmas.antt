@@ -1,5 +1,5 @@
 -- Lemmas about Undo: the last step is taken back.
-use Rattle.std.proofs.Common.{◌≡◌, ◌+◌, ◌-◌, List, [], ◌∷◌, ◌++◌, length, take, ap, subst, arith, length-take-le}
+use Rattle.std.proofs.Common.{◌≡◌, ◌+◌, ◌-◌, List, [], ◌∷◌, ◌++◌, length, take, subst, arith, length-take-le}
 use Rattle.jc_rules.specs.Syntax.{Cmd}
 use Rattle.jc_rules.specs.History.{timeline}
 use Rattle.jc_tree.specs.Tree.{Tree}
@@ -7,7 +7,7 @@ use Rattle.jc_replica.specs.declared.record.Change.{Change}
 use Rattle.jc_replica.specs.declared.record.Change.TheVariants as C
 use Rattle.jc_replica.specs.declared.record.Record.{Record}
 use Rattle.jc_replica.specs.Invariant.{CanBack, IsInBounds, IsReplica}
-use Rattle.jc_replica.specs.Undo.{Held, undone_once, states}
+use Rattle.jc_replica.specs.Undo.{Held, undone_once}
 use Rattle.jc_replica.proofs.UndoStepsLemmas.{Unstepped, unstepped, can_back}
 
 -- what can be taken back leaves the bounds

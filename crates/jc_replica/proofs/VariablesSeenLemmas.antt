@@ -12,7 +12,7 @@ use Rattle.jc_rules.specs.Table.{bind}
 use Rattle.jc_rules.specs.Trace.{Rows, at_depth}
 use Rattle.jc_rules.proofs.DerivesLemmas.{one_premise}
 use Rattle.jc_syntax.specs.declared.tree.Cmd.{Cmd as CmdTree}
-use Rattle.jc_syntax.specs.declared.tree.Cmd.TheVariants.{Let, Set, InsertAfter as Insert, Delete as Del, Yield as Wait}
+use Rattle.jc_syntax.specs.declared.tree.Cmd.TheVariants.{Let}
 use Rattle.jc_syntax.specs.declared.tree.Expr.{Expr as ExprTree}
 use Rattle.jc_syntax.specs.Trees.{cmd_of}
 use Rattle.jc_cursor.specs.Evaluates.{Evaluates, IsEvalRefused}
@@ -52,10 +52,7 @@ module _ (set : List Op) (p : ℕ) (A K : State) (stands : RepresentsState set A
 -- the next command is the one that is read
 pub only_let : (c : CmdTree) (x : List ℕ) (e : Expr) → cmd_of c ≡ LetIn x e → ((y : List ℕ) (f : ExprTree) → c ≡ Let y f → ⊥) → ⊥
 only_let (Let y f) x e h n = n y f refl
-only_let (Set f v) x e h n = cc
-only_let (Insert f v) x e h n = cc
-only_let (Del f) x e h n = cc
-only_let Wait x e h n = cc
+only_let _ x e h n = cc
 
 pub same_let : (x y : List ℕ) (e f : Expr) → LetIn x e ≡ LetIn y f → (x ≡ y) × (e ≡ f)
 same_let x y e f h = (let a : x ≡ y = cc in a, let b : e ≡ f = cc in b)

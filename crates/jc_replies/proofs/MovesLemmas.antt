@@ -1,5 +1,5 @@
 -- Of `ReplyTexts`: positions with their events, and the members of an answer to a move.
-use Rattle.std.proofs.Common.{◌≡◌, ℕ, zero, suc, ◌+◌, ◌-◌, false, List, [], ◌∷◌, ◌++◌, length, slice_get, Option, Some, None, codes, refl, ap, sym, ◌∙◌, arith, append-nil}
+use Rattle.std.proofs.Common.{◌≡◌, ℕ, zero, suc, ◌+◌, ◌-◌, false, List, [], ◌∷◌, ◌++◌, length, Option, Some, None, codes, refl, ap, sym, ◌∙◌, append-nil}
 use Rattle.std.specs.List.{All}
 use Rattle.jc_rules.specs.declared.operation.Event.{Event}
 use Rattle.jc_rules.specs.Refused.{Cause}
@@ -20,13 +20,6 @@ use Rattle.jc_replies.specs.ReplyTexts.{Background, true_member, event_to, event
 use Rattle.jc_replies.specs.AnswerOf.{background_of}
 
 -- ---- events of positions
-
-pub at_first : (B : Background) (n : ℕ) (found : Option Event) → n ≡ 0 → found ≡ slice_get B.given (length B.given - 1) → found ≡ event_to B n
-at_first B n found here is = is ∙ ap (event_to B) (sym here)
-
-pub at_later : (B : Background) (n : ℕ) (found : Option Event) → (n ≡ 0 → ⊥) → found ≡ slice_get B.schedule (n - 1) → found ≡ event_to B n
-at_later B zero found later is = absurd (later refl)
-at_later B (suc n) found later is = let same : suc n - 1 ≡ n = omega arith in is ∙ ap (slice_get B.schedule) same
 
 pub event_named : (B : Background) (n size : ℕ) (event : Event) → All (λ e. AreNamed e size) B.given → All (λ e. AreNamed e size) B.schedule → event_to B n ≡ Some event → AreNamed event size
 event_named B zero size event given schedule is = of_all (λ e. AreNamed e size) B.given (length B.given - 1) event given is

@@ -1,5 +1,5 @@
 -- Of `Asked`: seeds as they are parsed, and what is behind words.
-use Rattle.std.proofs.Common.{◌≡◌, ◌≢◌, ℕ, zero, suc, ◌<◌, ◌^◌, nat_le, nat_lt, ◌==◌, List, [], ◌∷◌, length, get_or, Bool, true, false, not, ◌&&◌, codes, None, Some, option_map, Result, Ok, Err, refl, ap, sym, subst, ◌∙◌, arith}
+use Rattle.std.proofs.Common.{◌≡◌, ℕ, zero, suc, ◌<◌, ◌^◌, nat_le, nat_lt, ◌==◌, List, [], ◌∷◌, length, get_or, Bool, true, false, not, ◌&&◌, codes, None, Some, option_map, Result, Ok, Err, refl, ap, sym, subst, ◌∙◌, arith}
 use Rattle.std.specs.List.{prefix_len, list_all}
 use Rattle.std.specs.Result.{OkIff, result_ok}
 use Rattle.std.specs.Str.{bytes_eq, all_ascii_digits}
@@ -10,7 +10,7 @@ use Rattle.jc_session.specs.Requests.{Word, is_blank_char, words, past, after_wo
 use Rattle.jc_session.specs.Lines.{Line}
 use Rattle.jc_session.specs.Views.{AreAscii}
 use Rattle.jc_session.proofs.RequestsLemmas.{ascii_drop}
-use Rattle.jc_requests.specs.Asked.{only, before, some_before, after_words, has_seed_form, seed_of, position_in, past_details, pair_of, journal, journal_by, journal_of, asked_by, asked}
+use Rattle.jc_requests.specs.Asked.{only, after_words, has_seed_form, seed_of, position_in, past_details, pair_of, journal, journal_by, journal_of, asked_by, asked}
 
 -- ---- seeds
 

@@ -2,16 +2,14 @@
 use Rattle.std.proofs.Common.{◌≡◌, ◌≢◌, ℕ, ◌+◌, ◌<◌, ◌≤◌, nat_le, ◌==◌, ◌⊎◌, inl, inr, List, [], ◌∷◌, ◌++◌, length, take, Bool, true, false, if◌then◌else◌, Option, None, Some, IfSome, MatchOption, Result, Ok, Err, refl, ap, sym, subst, ◌∙◌, arith, length-append, append_assoc, Bor, Vec, Global}
 use Rattle.std.proofs.lemmas.Bool.Decides.{nat_tests}
 use Rattle.std.proofs.lemmas.List.{length-take-le}
-use Rattle.std.proofs.lemmas.Grind.{common_steps}
-use Rattle.std.proofs.Math.Seq.{take-append_seam}
 use Rattle.std.specs.Io.KnownBytes.{Consumes, IsAtEnd, prepend_known}
-use Rattle.std.proofs.KnownBytes.{Consumes-nil, Consumes-trans}
+use Rattle.std.proofs.KnownBytes.{Consumes-trans}
 use Rattle.jc_io.specs.declared.io.ReadFault.{ReadFault}
 use Rattle.jc_io.specs.Streams.{StaysIfKnown}
 use Rattle.jc_session.specs.Lines.{Line, Lacks, without_cr, last_line}
 use Rattle.jc_session.specs.LineReading.{ReadStopsAt}
 use Rattle.jc_session.specs.Views.{line_of_bytes}
-use Rattle.jc_session.proofs.AheadLemmas.{kept_more}
+use Rattle.jc_session.proofs.AheadLemmas.{kept_more, take_whole, take_full}
 use Rattle.jc_session.proofs.LineReadingLemmas.{stops_here}
 use Rattle.jc_requests.specs.declared.turn.Turn.{Turn as AnyTurn}
 use Rattle.jc_requests.specs.declared.turn.Turn.TheVariants as T
@@ -21,12 +19,6 @@ use Rattle.jc_requests.specs.Input as I
 use Rattle.jc_requests.specs.InputViews.{line_by, turn_of, TextPart}
 
 -- ---- lines by what is kept of them
-
-take_whole : (n : ℕ) (xs : List ℕ) → length xs ≤ n → take n xs ≡ xs
-take_whole n xs h = grind (arith, common_steps)
-
-take_full : (n : ℕ) (xs ys : List ℕ) → length xs ≡ n → take n (xs ++ ys) ≡ xs
-take_full n xs ys h = ap (λ k. take k (xs ++ ys)) (sym h) ∙ take-append_seam xs ys
 
 -- what is kept of a line is judged as the line is
 pub kept_judged : (ended : Bool) (raw front : List ℕ) → front ≡ take 4097 raw → line_by ended front ≡ line_by ended raw

@@ -68,3 +68,11 @@ not_so false f = refl
 pub or_false : (a : Bool) → a || false ≡ a
 or_false true = refl
 or_false false = refl
+
+pub and_false : (a : Bool) → a && false ≡ false
+and_false true = refl
+and_false false = refl
+
+pub or_assoc : (a b c : Bool) → a || (b || c) ≡ (a || b) || c
+or_assoc true b c = refl
+or_assoc false b c = refl

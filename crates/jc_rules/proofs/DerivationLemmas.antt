@@ -191,11 +191,7 @@ some_ids (Some (i ∷ is)) h = refl
 primitive : (v : Value) → IsPrimitive v → R.Assign ≡ by_value v
 primitive V.EmptyMap h = absurd h
 primitive V.EmptyList h = absurd h
-primitive (V.Number n) h = refl
-primitive (V.Str n) h = refl
-primitive V.True h = refl
-primitive V.False h = refl
-primitive V.Null h = refl
+primitive _ h = refl
 
 before : (n : Next) (i : Id) → IsBefore n i → R.Insert1 ≡ by_link (Some n) i
 before Tail i h = refl

@@ -10,7 +10,7 @@ use Rattle.jc_rules.specs.Order.{id_cmp, same_id}
 use Rattle.jc_rules.specs.Ids.{AreRising, has_id, with_id, added, union, without}
 use Rattle.jc_rules.proofs.OrderLemmas.{ids_total, exact_ids}
 use Rattle.jc_rules.proofs.RisingLemmas as rising
-use Rattle.jc_rules.proofs.BoolLemmas.{no_truth, or_swap, or_false}
+use Rattle.jc_rules.proofs.BoolLemmas.{no_truth, or_swap, or_false, and_false, or_assoc}
 
 pub equal_itself : (i : Id) → id_cmp i i ≡ Equal
 equal_itself i = tied_itself ids_total i
@@ -46,10 +46,6 @@ has_id-with k i (j ∷ js) = go (id_cmp i j) refl (has_id-with k i js)
     go Equal e ih = let s : i ≡ j = exact_ids i j e in rw e (rw s (or_same (same_id k j) (has_id k js)))
     go Greater e ih = rw (e, ih) (or_swap (same_id k j) (same_id k i) (has_id k js))
 
-or_assoc : (a b c : Bool) → a || (b || c) ≡ (a || b) || c
-or_assoc true b c = refl
-or_assoc false b c = refl
-
 has_id-added : (k : Id) (is js : List Id) → has_id k (added is js) ≡ has_id k is || has_id k js
 has_id-added k [] js = refl
 has_id-added k (i ∷ is) js = has_id-with k i (added is js) ∙ rw (has_id-added k is js) (or_assoc (same_id k i) (has_id k is) (has_id k js))
@@ -57,17 +53,6 @@ has_id-added k (i ∷ is) js = has_id-with k i (added is js) ∙ rw (has_id-adde
 -- what is in a union
 pub has_id-union : (k : Id) (is js : List Id) → has_id k (union is js) ≡ has_id k is || has_id k js
 has_id-union k is js = has_id-added k is (added js []) ∙ rw (has_id-added k js []) (rw (or_false (has_id k js)) refl)
-
-and_or : (a b c : Bool) → (a || b) && c ≡ (a && c) || (b && c)
-and_or true true true = refl
-and_or true true false = refl
-and_or true false true = refl
-and_or true false false = refl
-and_or false b c = refl
-
-and_false : (a : Bool) → a && false ≡ false
-and_false true = refl
-and_false false = refl
 
 -- what is in the first and not in the second
 pub has_id-without : (k : Id) (is deps : List Id) → has_id k (without is deps) ≡ has_id k is && not (has_id k deps)

@@ -200,11 +200,6 @@ walks_on : (P : Tests → Type 0) (c : Context) (cur : Cursor) (i : ℕ) (j : Id
     → P (counted (presence (K.Elem j) c) (ask (SelectIndex c (cursor [] (K.Elem j)) i) no_more) (ask (SelectIndex c (cursor [] (K.Elem j)) (suc i)) no_more)) → P (tests_of (SelectIndex c cur (suc i)))
 walks_on P c cur i j e f h = path_ends P cur.path _ _ e (next_is P (next cur.last c) j _ f h)
 
-not_insert : (c : Context) (o : Op) (m : Mutation) → ((v : Value) → m ≢ M.Insert v) → Passes (by_mutation c o m)
-not_insert c o (M.Assign v) h = tt
-not_insert c o (M.Insert v) h = absurd (h v refl)
-not_insert c o M.Delete h = tt
-
 -- a rule's premises pass all that is tried for its question
 rule_passes : (r : Rule) (q : Question) (a : Answer) (ps : Premises) → Follows r q a (conclusions ps) → AllHold ps → Passes (tests_of q)
 rule_passes R.Exec (Occur A (E.Exec p) _) a ps (c, rest, B, x3, x4, x5, x6) h = command_is Passes A.left c rest _ x3 (x4, alone _ _ ps h x5)
@@ -329,11 +324,7 @@ begins q A e h = cc
 
 yields : (A : State) (event : Event) (read : List Op) → IsYieldEvent event → (t : Tests) × (tests_of (Occur A event read) ≡ at_the_yield A t)
 yields A (E.Exec p) read h = absurd h
-yields A (E.Send p) read h = (_, refl)
-yields A (E.Recv p q) read h = (_, refl)
-yields A (E.Take p q i) read h = (_, refl)
-yields A (E.Apply p i) read h = (_, refl)
-yields A (E.Done p) read h = (_, refl)
+yields A _ read h = (_, refl)
 
 makes : (p : ℕ) (A : State) (c : Cmd) (e : Expr) (m : Mutation) → made_by c ≡ Some (e, m) → tests_of (Run p A c) ≡ on_cursor A e (λ cur. ask (Make p A cur m) no_more)
 makes p A (SetTo d v) e m h = ap (λ (i : Expr × Mutation). on_cursor A i.0 (λ cur. ask (Make p A cur i.1) no_more)) (cc)

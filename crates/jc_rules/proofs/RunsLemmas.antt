@@ -81,9 +81,6 @@ pub record AreDropped (all now : List (Rule × ℕ)) (count left : ℕ) : Type 0
   pub parts : all ≡ now ++ dropped
   pub number : left + length dropped ≡ count
 
-pub none_dropped : (all now : List (Rule × ℕ)) (count left : ℕ) → now ≡ all → left ≡ count → AreDropped all now count left
-none_dropped all now count left e n = record { dropped = []; parts = sym e ∙ sym (append-nil now); number = omega (arith, n) }
-
 pub run_dropped : (all : List (Rule × ℕ)) (rs new : List Run) (r : Run) (count left size : ℕ) → AreDropped all (rows_of_all rs) count left → rs ≡ new ++ r ∷ [] → size ≡ r.count → size ≤ left → AreDropped all (rows_of_all new) count (left - size)
 run_dropped all rs new r count left size d e n le = record {
   dropped = run_rows r ++ d.dropped;
@@ -93,14 +90,6 @@ run_dropped all rs new r count left size d e n le = record {
 
 front : (xs ys : List (Rule × ℕ)) (n : ℕ) → n ≡ length xs → take n (xs ++ ys) ≡ xs
 front xs ys n e = ap (λ (m : ℕ). take m (xs ++ ys)) e ∙ take-append_seam xs ys
-
-pub dropped_all : (all : List (Rule × ℕ)) (rs : List Run) (count left : ℕ) → AreDropped all (rows_of_all rs) count left → count ≤ length all → rs ≡ [] → rows_of_all rs ≡ take (length all - count) all
-dropped_all all rs count left d le e =
-    let none : rows_of_all rs ≡ [] = ap rows_of_all e in
-    let is : all ≡ d.dropped = d.parts ∙ ap (λ (l : List (Rule × ℕ)). l ++ d.dropped) none in
-    let size : length all ≡ length d.dropped = ap length is in
-    let zero_left : length all - count ≡ 0 = omega (arith, size, d.number, le) in
-    none ∙ ap (λ (m : ℕ). take m all) (sym zero_left)
 
 pub part_dropped : (all : List (Rule × ℕ)) (rs new last : List Run) (r s : Run) (count left less : ℕ) → AreDropped all (rows_of_all rs) count left → rs ≡ new ++ r ∷ [] → less ≡ left → left < r.count → (s.rule ≡ r.rule) × (s.depth ≡ r.depth) × (s.count ≡ r.count - less) → last ≡ new ++ s ∷ [] → rows_of_all last ≡ take (length all - count) all
 part_dropped all rs new last r s count left less d e le lt is g =

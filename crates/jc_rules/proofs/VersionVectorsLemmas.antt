@@ -1,7 +1,6 @@
 -- About specs/VersionVectors: the greatest counter that a version vector has of each replica.
 use Rattle.std.proofs.Common.{◌≡◌, ℕ, zero, suc, ◌+◌, ◌<◌, ◌≤◌, List, [], ◌∷◌, ◌++◌, Bool, true, false, eqb, length, get_or, set, remove, eqb-true, eq-eqb, Option, Some, None, refl, sym, ◌∙◌, ap, subst, arith}
-use Rattle.std.specs.Prelude.{position, find}
-use Rattle.std.specs.Option.{option_map_or}
+use Rattle.std.specs.Prelude.{position}
 use Rattle.std.specs.List.{AllByRecursion, position_or_len}
 use Rattle.std.proofs.lemmas.Grind.{common_steps}
 use Rattle.std.proofs.lemmas.List.Quantifiers.{position-Some}
@@ -43,15 +42,6 @@ pub greatest_at : (p : ℕ) (s : List Id) (n : ℕ) (d : Id) → IsVersionVector
 greatest_at p [] n d h l r = absurd (omega arith)
 greatest_at p (i ∷ s) zero d h l r = only_first i s p r h.0
 greatest_at p (i ∷ s) (suc n) d h l r = greatest_there i s p (apart p i.replica s n d (omega arith) r h.0) ∙ greatest_at p s n d h.1 (omega arith) r
-
--- what is looked for
-pub greatest_found : (p : ℕ) (s : List Id) → IsVersionVector s → option_map_or (λ (i : Id). i.counter) (find (λ i. eqb i.replica p) s) 0 ≡ greatest_of p s
-greatest_found p [] h = refl
-greatest_found p (i ∷ s) h = go (eqb i.replica p) refl (greatest_found p s h.1)
-  where
-    go : (b : Bool) → eqb i.replica p ≡ b → option_map_or (λ (j : Id). j.counter) (find (λ j. eqb j.replica p) s) 0 ≡ greatest_of p s → option_map_or (λ (j : Id). j.counter) (find (λ j. eqb j.replica p) (i ∷ s)) 0 ≡ greatest_of p (i ∷ s)
-    go true e ih = rw e (sym (only_first i s p (eqb-true i.replica p e) h.0) ∙ greatest_here i s p (eqb-true i.replica p e))
-    go false e ih = rw e ih
 
 -- the place of a replica
 pub record IsPlace (p n : ℕ) (s : List Id) (d : Id) : Type 0 where

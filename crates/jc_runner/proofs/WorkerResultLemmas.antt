@@ -98,10 +98,7 @@ pub goes_on : (s : Scenario) (e : Event) (seen mine new_mine history : List Even
     → end_of a ≡ None → IsStepAnswered s e seen mine new_mine left new_left a → seen ≡ seen_after history e a
     → (seen ≡ history ++ e ∷ []) × (new_mine ≡ mine ++ e ∷ []) × (new_left + 1 ≡ left)
 goes_on s e seen mine new_mine history left new_left (A.Made number trace) none h is = (is, h.0.grew, h.1)
-goes_on s e seen mine new_mine history left new_left (A.Refused front stuck) none h is = cc
-goes_on s e seen mine new_mine history left new_left (A.Full front) none h is = cc
-goes_on s e seen mine new_mine history left new_left A.Memory none h is = cc
-goes_on s e seen mine new_mine history left new_left A.Spent none h is = cc
+goes_on s e seen mine new_mine history left new_left _ none h is = cc
 
 -- what the result by which a thread ends says of the history, where the pass's own events are below the limit
 module _ (s : Scenario) (p limit : ℕ) (history mine : List Event) (N : Network) (phase next : Phase) (e : Event)

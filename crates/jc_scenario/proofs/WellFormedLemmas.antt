@@ -5,7 +5,7 @@ use Rattle.std.proofs.lemmas.List.{length-map}
 use Rattle.std.proofs.lemmas.List.Elements.{All-nil, All-cons, All-head, All-tail, All-map}
 use Rattle.std.proofs.lemmas.List.Sorted.{All-permutation, length_permutation}
 use Rattle.jc_rules.specs.declared.operation.Event.{Event}
-use Rattle.jc_rules.specs.declared.operation.Event.TheVariants.{Exec, Send, Recv, Take, Apply, Done}
+use Rattle.jc_rules.specs.declared.operation.Event.TheVariants.{Take, Apply}
 use Rattle.jc_rules.specs.declared.version.Version.{Version}
 use Rattle.jc_rules.specs.declared.version.Version.TheVariants.{One, Two}
 use Rattle.jc_rules.specs.Syntax.{Cmd}
@@ -33,12 +33,9 @@ module _ (t : ScenarioTree) (s : Scenario) (is : IsOfTree t s) where
   count = sym (ap length names_are) ∙ length-map (parts_of s.names s.scripts) name_of_part ∙ length_permutation t.parts (parts_of s.names s.scripts) is.same
 
 counter_below : (names : List (List ℕ)) (e : Event) → IsCallWellFormed (call_by names e) → IsCounterBelow e
-counter_below names (Exec p) small = tt
-counter_below names (Send p) small = tt
-counter_below names (Recv p q) small = tt
 counter_below names (Take p q i) small = small
 counter_below names (Apply p i) small = small
-counter_below names (Done p) small = tt
+counter_below names _ small = tt
 
 each_counter : (names : List (List ℕ)) (es : List Event) → All IsCallWellFormed (map (call_by names) es) → All IsCounterBelow es
 each_counter names [] all = All-nil IsCounterBelow
@@ -47,13 +44,9 @@ each_counter names (e ∷ es) all =
 
 -- an event that a version has by names, it has by numbers
 event_allowed : (v : Version) (names : List (List ℕ)) (e : Event) → HasCall v (call_by names e) → Allows e v
-event_allowed v names (Exec p) has = tt
-event_allowed v names (Send p) has = tt
-event_allowed v names (Recv p q) has = tt
 event_allowed One names (Take p q i) has = absurd has
 event_allowed Two names (Take p q i) has = tt
-event_allowed v names (Apply p i) has = tt
-event_allowed v names (Done p) has = tt
+event_allowed v names _ has = tt
 
 each_allowed : (v : Version) (names : List (List ℕ)) (es : List Event) → All (HasCall v) (map (call_by names) es) → All (λ e. Allows e v) es
 each_allowed v names [] all = All-nil (λ e. Allows e v)

@@ -5,7 +5,7 @@ use Rattle.std.proofs.lemmas.Bool.{lt-ltb}
 use Rattle.std.proofs.lemmas.List.Elements.{All-nil, All-cons, All-head, All-tail}
 use Rattle.jc_rules.specs.declared.limits.TheConstants.{MAX_COMMANDS, MAX_REPLICAS, MAX_EVENTS}
 use Rattle.jc_rules.specs.declared.operation.Event.{Event}
-use Rattle.jc_rules.specs.declared.operation.Event.TheVariants.{Exec, Send, Recv, Take, Apply, Done}
+use Rattle.jc_rules.specs.declared.operation.Event.TheVariants.{Exec}
 use Rattle.jc_rules.specs.declared.version.Version.{Version}
 use Rattle.jc_rules.specs.declared.version.Version.TheVariants.{One, Two}
 use Rattle.jc_rules.specs.Syntax.{Cmd}
@@ -229,11 +229,7 @@ pub record IsWritable (v : Version) (ps : List Part) (gs es : List Event) : Type
 
 second_allows : (e : Event) → Allows e Two
 second_allows (Exec p) = tt
-second_allows (Send p) = tt
-second_allows (Recv p q) = tt
-second_allows (Take p q i) = tt
-second_allows (Apply p i) = tt
-second_allows (Done p) = tt
+second_allows _ = tt
 
 each_written : (v : Version) (es : List Event) → All IsCounterBelow es → All (λ e. Allows e v) es → All (IsWrittenEvent v) es
 each_written v es small allowed = λ k d less. (small k d less, allowed k d less)

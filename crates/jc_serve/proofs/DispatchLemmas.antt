@@ -1,6 +1,5 @@
 -- Of `Answers` and `AnswerOf`: which function answers a request.
 use Rattle.std.proofs.Common.{◌≡◌, ℕ, Bool, List, length, Option, Vec, Global, refl, sym, ap, subst, ◌∙◌}
-use Rattle.std.specs.Borrow.{Bor}
 use Rattle.std.specs.declared.alloc.Global.{Global}
 use Rattle.std.specs.declared.vec.Vec.{Vec}
 use Rattle.jc_printer.specs.Canon.{quoted}
@@ -8,10 +7,7 @@ use Rattle.jc_scenario.specs.Canon.{canon}
 use Rattle.jc_scenario.specs.Views.{scenario_view}
 use Rattle.jc_scenario.specs.WellFormed.{Scenario, IsScenario}
 use Rattle.jc_choice.specs.Laws.{with_schedule}
-use Rattle.jc_session.specs.declared.request.Request.{Request as AnyRequest}
-use Rattle.jc_session.specs.declared.request.Request.TheVariants as R
 use Rattle.jc_session.specs.Requests as Q
-use Rattle.jc_session.specs.Views.{request_view}
 use Rattle.jc_requests.specs.Asked as K
 use Rattle.jc_requests.specs.Asked.{Asked, Position}
 use Rattle.jc_answers.specs.JsonTexts.{array_text}
@@ -26,10 +22,10 @@ use Rattle.jc_serve.specs.declared.served.Served.{Served as AnyServed}
 use Rattle.jc_serve.specs.declared.stuck.GivenStop.{GivenStop as AnyGivenStop}
 use Rattle.jc_serve.specs.declared.subjects.Subject.TheVariants as S
 use Rattle.jc_serve.specs.Answers as A
-use Rattle.jc_serve.specs.Answers.{details, IsOwn, quit_answer, mark_answers, IsOfText, AnswersServed, AnswersStuck, AnswersAbout}
+use Rattle.jc_serve.specs.Answers.{details, quit_answer, mark_answers, AnswersServed, AnswersStuck}
 use Rattle.jc_serve.specs.Asking as G
-use Rattle.jc_serve.specs.Asking.{IsLookRequest, IsBadLook, AsksLook, LooksAt}
-use Rattle.jc_serve.specs.AnswerOf.{LeadsTo, ShowsIn, IsOfStop, IsStopLook, AnswersStop, IsInService, IsSomeStop, IsSubjectOf, AnswersRefusedBy, AnswersOn}
+use Rattle.jc_serve.specs.Asking.{IsBadLook, AsksLook, LooksAt}
+use Rattle.jc_serve.specs.AnswerOf.{LeadsTo, ShowsIn, IsOfStop, IsStopLook, AnswersStop, IsSomeStop, IsSubjectOf, AnswersRefusedBy, AnswersOn}
 use Rattle.jc_serve.specs.InMemory.{state_of}
 use Rattle.jc_serve.specs.Marks.{Served}
 use Rattle.jc_serve.specs.Subjects.{Subject, no_scenario, stuck_given, served}

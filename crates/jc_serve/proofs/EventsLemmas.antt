@@ -1,19 +1,17 @@
 -- Of jc_listings' `Journals`: what is told of events of a session.
-use Rattle.std.proofs.Common.{◌≡◌, ◌↔◌, ℕ, suc, ◌+◌, ◌-◌, ◌<◌, false, List, [], length, get_or, slice_get, option_copied, Option, Some, None, Ok, IfSome, IsNone, refl, sym, ap, subst, ◌∙◌, arith}
+use Rattle.std.proofs.Common.{◌≡◌, ℕ, suc, ◌+◌, ◌-◌, ◌<◌, false, List, [], length, get_or, slice_get, option_copied, Option, Some, Ok, refl, sym, ap, subst, ◌∙◌, arith}
 use Rattle.std.specs.Borrow.{Bor}
 use Rattle.jc_rules.specs.declared.operation.Event.{Event}
 use Rattle.jc_rules.specs.declared.rule.Rule.{Rule}
-use Rattle.jc_rules.specs.declared.run.Run.{Run}
 use Rattle.std.proofs.lemmas.Option.{slice_get-get_or}
 use Rattle.jc_rules.specs.Step.{Network, StepIn}
-use Rattle.jc_rules.specs.Runs.{rows_of_all}
 use Rattle.jc_rules.specs.Trace.{Rows}
 use Rattle.jc_scenario.specs.Views.{scenario_view}
 use Rattle.jc_scenario.specs.WellFormed.{Scenario}
 use Rattle.jc_effects.specs.declared.effects.Effects.{Effects}
 use Rattle.jc_journal.specs.declared.event.NumberedEvent.{NumberedEvent}
 use Rattle.jc_journal.specs.EventLine.{IsBeforeLast, AreEffects, event_line}
-use Rattle.jc_journal.specs.Parts.{rows_of, differences_in, differences_at}
+use Rattle.jc_journal.specs.Parts.{differences_in, differences_at}
 use Rattle.jc_network.specs.NetworkHistory.{NetworkHistory}
 use Rattle.jc_looks.specs.declared.fault.LookFault.{LookFault}
 use Rattle.jc_looks.specs.declared.fault.LookFault.TheVariants as F

@@ -7,7 +7,7 @@ use Rattle.jc_rules.specs.declared.limits.TheConstants.{MAX_EVENTS}
 use Rattle.jc_session.specs.Lines.{Line}
 use Rattle.jc_session.specs.Requests.{Word, Meaning, asks, nothing, bad, among, words, meaning, number_in}
 use Rattle.jc_requests.specs.Asked as K
-use Rattle.jc_requests.specs.Asked.{Asked, Position, asked, asked_by, meant, in_session, alone, viewed, stated, briefed, evaluated, event_of, journal_by, journal_of, pair_of, at_position, op_by, op_in, break_of, weave_by, weave_of, limit_of, limit_in, seed_in, scenario_of, exactly, own, or_by_session, only, past_at, past_details, position_in}
+use Rattle.jc_requests.specs.Asked.{Asked, Position, asked, asked_by, meant, in_session, alone, viewed, stated, briefed, evaluated, event_of, journal_by, pair_of, at_position, op_by, op_in, break_of, weave_by, weave_of, limit_of, seed_in, exactly, own, or_by_session, only, past_at, past_details, position_in}
 use Rattle.jc_serve.specs.AnswerOf.{IsWithinLimit}
 
 abbrev HasLimit : Option Asked → Type 0

@@ -17,7 +17,6 @@ use Rattle.jc_debug.specs.declared.fault.DebugFault.TheVariants as D
 use Rattle.jc_debug.specs.DebuggerState.{IsNetworkAt}
 use Rattle.jc_debug.specs.Invariant.{Seen, IsDebugger, IsMoved, start_of}
 use Rattle.jc_debug.specs.Moves.{IsMoveFault, IsToldAt}
-use Rattle.jc_session.specs.AnswerOf.{AllNamed}
 use Rattle.jc_looks.specs.declared.looks.Look.{Look}
 use Rattle.jc_looks.specs.Looks.{IsWithin, ShowsLook}
 use Rattle.jc_listings.specs.Positions.{IsAt}

@@ -280,17 +280,6 @@ change_named aside here event p c t h l own all = (
   λ (to, other, changed). (of_led (TellsChanges t c) aside here event h l all to).1 changed,
 )
 
-pub of_other : (aside here : Seen) (event : Event) (p : ℕ) (c : Cursor) → IsDebugger here → Led aside here event → (replica_of event ≡ p → ⊥) → IsTrue false ↔ MarkNames (start_of here) here.schedule (place p c) (length here.traces)
-of_other aside here event p c h l other = (
-  λ y. absurd (never y),
-  λ (to, own, changed).
-      let n = l.position in
-      let m = to.is in
-      let same : to.before ≡ l.before = omega (arith, n, m) in
-      let one : to.event ≡ event = same_Some to.event event (sym to.makes.is ∙ (ap (slice_get here.schedule) same ∙ l.is)) in
-      absurd (other (ap replica_of (sym one) ∙ own)),
-)
-
 -- ---- any breakpoint
 
 pub none_at : (here : Seen) (marks : List (Option AnyMark)) (j : ℕ) → slice_get (marks_of marks) j ≡ Some None → NamesHere here marks j → ⊥

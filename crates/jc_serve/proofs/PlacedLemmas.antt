@@ -1,5 +1,5 @@
 -- Of `Asking` and jc_listings' `Journals`: what is shown at other positions of a session.
-use Rattle.std.proofs.Common.{◌≡◌, ℕ, suc, ◌+◌, ◌-◌, ◌<◌, false, true, Bool, nat_lt, if◌then◌else◌, List, [], length, take, slice_get, Some, refl, sym, ap, subst, ◌∙◌, arith, rules}
+use Rattle.std.proofs.Common.{◌≡◌, ℕ, suc, ◌+◌, ◌-◌, ◌<◌, false, true, Bool, nat_lt, if◌then◌else◌, List, [], length, take, slice_get, Some, refl, sym, ap, subst, ◌∙◌, arith}
 use Rattle.std.proofs.lemmas.Option.{slice_get_within}
 use Rattle.jc_rules.specs.declared.operation.Event.{Event}
 use Rattle.jc_rules.specs.declared.rule.Rule.{Rule}
@@ -30,6 +30,7 @@ use Rattle.jc_serve.specs.declared.served.Served.{Served as AnyServed}
 use Rattle.jc_serve.specs.AnswerOf.{IsLineHere, stopped_answer}
 use Rattle.jc_serve.specs.InMemory.{IsDebuggerOf, IsServing, IsBehind}
 use Rattle.jc_serve.proofs.PositionsLemmas.{at_schedule, stops_at, get_behind}
+use Rattle.jc_choice.proofs.ChosenNamesLemmas.{below}
 
 -- ---- events that are stuck
 
@@ -90,9 +91,6 @@ module _ (s : Scenario) (start : Network) (x : AnyServed) (v : IsServing s start
       }
 
 -- ---- lines of events
-
-below : (a b : ℕ) → nat_lt a b ≡ true → a < b
-below a b h = search (rules, h)
 
 pub number_in_schedule : (s : Scenario) (n : ℕ) → number_behind s (length s.given + n) ≡ (false, n + 1)
 number_in_schedule s n = go (nat_lt (length s.given + n) (length s.given)) refl

@@ -32,13 +32,10 @@ use Rattle.jc_serve.specs.Answers.{AnswersServed, at_mark, at_start}
 use Rattle.jc_serve.specs.AnswerOf.{LeadsTo}
 use Rattle.jc_serve.specs.InMemory.{state_of, IsServing}
 use Rattle.jc_serve.specs.Marks.{Served, RunsTo, RunsBack, RunCanEnd, moved_to, to_mark}
-use Rattle.jc_serve.specs.Moves.{ArePaired, IsMovedTo, RunsForward, RunsBackward}
+use Rattle.jc_serve.specs.Moves.{IsMovedTo, RunsForward, RunsBackward}
 use Rattle.jc_serve.proofs.MarksLemmas.{mark_within}
 
 -- ---- the session, and one that moved from it
-
-pub paired : (s : Scenario) (start : Network) (x : AnyServed) → IsServing s start x → ArePaired x
-paired s start x h = record { start = h.aside.is_start ∙ sym h.here.is_start; schedule = h.same }
 
 pub serving_still : (s : Scenario) (start : Network) (x y : AnyServed) (n : ℕ) → IsMovedTo x y n → IsServing s start x → IsServing s start y
 serving_still s start x y n m h = record {

@@ -15,8 +15,7 @@ use Rattle.jc_serve.specs.declared.served.Served.{Served as AnyServed}
 use Rattle.jc_serve.specs.AnswerOf.{with_here}
 use Rattle.jc_serve.specs.InMemory.{state_of, marks_of}
 use Rattle.jc_serve.specs.Marks.{Mark, MarkNames, MarkNamesAt, IsUnmarked, to_mark, to_start}
-use Rattle.jc_serve.specs.Moves.{ArePaired, IsMovedTo, IsNamedBy, GoesForward, RunsForward, RunsBackward}
-use Rattle.jc_serve.proofs.MarksLemmas.{mark_within}
+use Rattle.jc_serve.specs.Moves.{IsMovedTo, IsNamedBy, GoesForward, RunsForward, RunsBackward}
 
 -- ---- moves one after the other
 

@@ -1,12 +1,11 @@
 -- Of `Serving`, `Stopped` and `Progress`: one request more, and the ends.
-use Rattle.std.proofs.Common.{◌≡◌, ◌↔◌, Result, Ok, Err, OnOk, IfSome, IsErrOf, IsErrAnd, Bool, true, false, not, IsTrue, ℕ, zero, suc, ◌+◌, ◌-◌, ◌<◌, ◌≤◌, List, [], ◌∷◌, ◌++◌, length, Option, None, Some, ◌⊎◌, inl, inr, refl, ap, sym, subst, ◌∙◌, arith, append_assoc, append-nil, length-append, Vec, Global}
+use Rattle.std.proofs.Common.{◌≡◌, ◌↔◌, Result, Ok, Err, IfSome, IsErrOf, IsErrAnd, Bool, true, false, not, ℕ, zero, suc, ◌+◌, ◌-◌, ◌<◌, ◌≤◌, List, [], ◌∷◌, ◌++◌, length, Option, None, Some, ◌⊎◌, inl, inr, refl, ap, sym, subst, ◌∙◌, arith, append_assoc, append-nil, length-append, Vec, Global}
 use Rattle.std.specs.Io.KnownBytes.{Consumes, IsAtEnd, prepend_known}
-use Rattle.std.proofs.lemmas.Option.{same_Some}
-use Rattle.std.proofs.KnownBytes.{Appends-nil, Appends-trans, prepend_known-nil}
+use Rattle.std.proofs.KnownBytes.{Appends-nil, prepend_known-nil}
 use Rattle.jc_io.specs.declared.io.ReadFault.{ReadFault}
 use Rattle.jc_io.specs.declared.io.ReadFault.TheVariants as R
 use Rattle.jc_io.specs.Written.{Stream, Wrote, Interrupted, Written}
-use Rattle.jc_io.proofs.WrittenLemmas.{one_failure}
+use Rattle.jc_io.proofs.WrittenLemmas.{wrote_both}
 use Rattle.jc_rules.specs.declared.limits.TheConstants.{MAX_LINE}
 use Rattle.jc_rules.specs.declared.refusal.Refusal.TheVariants.{BadLine}
 use Rattle.jc_session.specs.LineReading.{ReadStopsAt}
@@ -24,14 +23,14 @@ use Rattle.jc_serve.specs.declared.serving.Held.{Held as AnyHeld}
 use Rattle.jc_serve.specs.declared.serving.ServeFault.{ServeFault}
 use Rattle.jc_serve.specs.declared.serving.ServeFault.TheVariants as F
 use Rattle.jc_serve.specs.declared.subjects.Subject.{Subject as AnySubject}
-use Rattle.jc_serve.specs.AnswerOf.{IsSubjectOf, IsNewFor, IsHeldFor, AnswersOn}
+use Rattle.jc_serve.specs.AnswerOf.{IsSubjectOf, IsNewFor, AnswersOn}
 use Rattle.jc_serve.specs.Answers.{AnswersAbout}
 use Rattle.jc_serve.specs.Subjects.{IsSubject, IsCounts}
 use Rattle.jc_serve.specs.Serving as V
 use Rattle.jc_serve.specs.Serving.{Held, IsFirst, AnswersTurn, AnswersTurns, IsQuit, HasNoQuit, BeginWith, AreFirst, AreAll, Serves, all, up_to_quit}
 use Rattle.jc_serve.specs.Stopped as P
 use Rattle.jc_serve.specs.Stopped.{AnsweredFirst, StoppedAtRead, StoppedWhole, StoppedInside, IsAtLimit, LeftBehind, LeftPast}
-use Rattle.jc_serve.specs.Progress.{fault_of_read, IsHeldAs, IsHeld, LeadsOn, AreRead, SoFar}
+use Rattle.jc_serve.specs.Progress.{fault_of_read, IsHeldAs, LeadsOn, AreRead, SoFar}
 
 -- The request leads from the one to the other, and its answer is a line that went out so.
 abbrev pub GoesOut : (List ℕ → Stream → Stream → Type 0) → AnyHeld → Turn → AnyHeld → Stream → Stream → Type 0
@@ -48,9 +47,6 @@ answers_more : (turns : List Turn) (turn : Turn) (H M I : Held) (text answer : L
 answers_more [] turn H M I text answer h a = (I, answer, [], subst (λ (X : Held). AnswersTurn X turn I answer) h.0 a, (refl, refl), ap (λ l. l ++ (answer ++ 10 ∷ [])) h.1)
 answers_more (t ∷ turns) turn H M I text answer (K, first, rest, at, more, e) a =
     (K, first, rest ++ (answer ++ 10 ∷ []), at, answers_more turns turn K M I rest answer more a, ap (λ l. l ++ (answer ++ 10 ∷ [])) e ∙ append_assoc first (10 ∷ rest) (answer ++ 10 ∷ []))
-
-pub wrote_both : (a b c : Stream) (text more : List ℕ) → Wrote text a b → Wrote more b c → Wrote (text ++ more) a c
-wrote_both a b c text more h k = (Appends-trans a.bytes b.bytes c.bytes text more h.0 k.0, k.1 ∙ h.1)
 
 -- the requests behind the one that was read, and that one
 turns_behind : (bytes_left turns_left less fewer : ℕ) (xs ys read : List ℕ) (turn : Turn) (more : List Turn) (end : InputEnd)
@@ -385,22 +381,6 @@ line_led line request x y text items e kept is on H (same, of) =
 pub line_refused : (line : Line) (x : AnyHeld) (items : List ℕ) → asked line ≡ None → items ≡ refusal_answer BadLine → LeadsOn x (says line) x items
 line_refused line x items none written H of = (H, subst (λ (t : List ℕ). AnswersTurn H (says line) H t) (sym written) (V.refuses none), of)
 
-pub quits : (line : Line) (request : Asked) (r more : Bool) → more ≡ not r → (IsTrue r ↔ (request ≡ of_session Q.quit)) → asked line ≡ Some request → (more ≡ false ↔ (asked line ≡ Some (of_session Q.quit)))
-quits line request true more e h is = (λ f. is ∙ ap Some (h.0 refl), λ f. e)
-quits line request false more e h is = (
-  λ f. absurd (true_is_false (sym e ∙ f)),
-  λ f. absurd (false_is_true (h.1 (same_request (sym is ∙ f)))),
-)
-  where
-    true_is_false : true ≡ false → ⊥
-    true_is_false k = cc
-
-    false_is_true : false ≡ true → ⊥
-    false_is_true k = cc
-
-    same_request : Some request ≡ Some (of_session Q.quit) → request ≡ of_session Q.quit
-    same_request k = same_Some request (of_session Q.quit) k
-
 pub goes_on : (line : Line) → asked line ≡ None → (true ≡ false ↔ (asked line ≡ Some (of_session Q.quit)))
 goes_on line none = (λ f. absurd (true_is_false f), λ f. absurd (none_is_some (sym none ∙ f)))
   where
@@ -446,10 +426,6 @@ begun_at input held out H ahead b t none bytes requests first is =
 pub not_both : (t : Bool) → t ≡ true → t ≡ false → ⊥
 not_both true e f = cc
 not_both false e f = cc
-
-pub when_ok : {T E : Type 0} (r : Result T E) (P Q : Type 0) → (P → Q) → OnOk r P → OnOk r Q
-when_ok (Ok v) P Q f h = f h
-when_ok (Err e) P Q f h = tt
 
 -- a read that failed
 pub read_failed : {T U : Type 0} (r : Result T ServeFault) (f : ReadFault) → IsErrAnd r (λ e. e ≡ fault_of_read f) → IsErrOf r F.ReadFailed → IsErrOf {T = U} (Err f) R.Failed

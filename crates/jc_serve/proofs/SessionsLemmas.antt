@@ -1,6 +1,5 @@
 -- Of `InMemory` and `AnswerOf`: sessions in memory, and what a session's requests make of them.
 use Rattle.std.proofs.Common.{◌≡◌, ℕ, ◌+◌, ◌<◌, ◌≤◌, List, [], ◌∷◌, ◌++◌, length, take, replicate, slice_get, Some, None, refl, sym, ap, subst, ◌∙◌, arith, length-append}
-use Rattle.std.specs.List.{All}
 use Rattle.std.proofs.lemmas.List.{length-map, length-take-le, take_all}
 use Rattle.std.proofs.Math.Seq.{take-append_seam}
 use Rattle.jc_rules.specs.declared.limits.TheConstants.{MAX_BREAKS}
@@ -8,7 +7,6 @@ use Rattle.jc_rules.specs.declared.operation.Event.{Event}
 use Rattle.jc_rules.specs.State.{start as first_state}
 use Rattle.jc_rules.specs.Step.{Network, AfterIn}
 use Rattle.jc_rules.proofs.VersionLemmas.{after_states}
-use Rattle.jc_printer.specs.Canon.{AreNamed}
 use Rattle.jc_scenario.specs.WellFormed.{Scenario, IsWellFormedScenario}
 use Rattle.jc_network.specs.Given.{before_given}
 use Rattle.jc_network.specs.Laws.{starts}
@@ -20,8 +18,8 @@ use Rattle.jc_choice.specs.Legal.{IsLegal}
 use Rattle.jc_choice.specs.Laws.{with_schedule}
 use Rattle.jc_choice.proofs.LegalLemmas.{well_formed_with}
 use Rattle.jc_session.specs.Answers as N
-use Rattle.jc_session.specs.Answers.{Origin, origin_of, ActsOn, Sets, Replies}
-use Rattle.jc_session.specs.AnswerOf.{origin_in, AllNamed}
+use Rattle.jc_session.specs.Answers.{Origin, origin_of, ActsOn, Replies}
+use Rattle.jc_session.specs.AnswerOf.{origin_in}
 use Rattle.jc_session.specs.Reply.{Reply}
 use Rattle.jc_session.specs.Requests as Q
 use Rattle.jc_session.specs.Requests.{Request}

@@ -27,10 +27,10 @@ use Rattle.jc_listings.specs.Positions.{count_of}
 use Rattle.jc_listings.proofs.JournalPartsLemmas.{not_behind}
 use Rattle.jc_serve.specs.declared.stuck.GivenStop.{GivenStop as AnyGivenStop}
 use Rattle.jc_serve.specs.Answers as A
-use Rattle.jc_serve.specs.Answers.{position_in, IsOfText, IsReached, IsNowhere, IsBadRequest, IsGoodRequest, AnswersStuck}
+use Rattle.jc_serve.specs.Answers.{position_in, IsOfText, IsBadRequest, IsGoodRequest, AnswersStuck}
 use Rattle.jc_serve.specs.Asking.{AsksLook, IsStrangeAnswer}
 use Rattle.jc_serve.specs.AnswerOf as O
-use Rattle.jc_serve.specs.AnswerOf.{IsStopped, IsOfStop, IsReachedBy, IsUnreached, IsStopLook, ShowsAt, IsPlain, AnswersStop}
+use Rattle.jc_serve.specs.AnswerOf.{IsStopped, IsOfStop, IsReachedBy, IsUnreached, IsStopLook, IsPlain, AnswersStop}
 use Rattle.jc_serve.specs.Subjects.{GivenStop, given_stuck_answer}
 use Rattle.jc_serve.proofs.StopLemmas.{led_before}
 

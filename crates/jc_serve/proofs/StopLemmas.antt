@@ -25,7 +25,7 @@ use Rattle.jc_listings.specs.declared.journals.Details.{Details}
 use Rattle.jc_listings.specs.Journals.{AnswersEvent, IsLineBehind, tells}
 use Rattle.jc_listings.specs.Positions.{all_events, number_behind, count_of, IsAt}
 use Rattle.jc_serve.specs.declared.stuck.GivenStop.{GivenStop as AnyGivenStop}
-use Rattle.jc_serve.specs.AnswerOf.{IsStopped, IsOfStop, IsNowhereAnswer, IsReachedBy, IsUnreached, here, nowhere, behind, ShowsAt}
+use Rattle.jc_serve.specs.AnswerOf.{IsStopped, IsOfStop, IsNowhereAnswer, IsUnreached, here, nowhere, behind, ShowsAt}
 use Rattle.jc_serve.specs.Subjects.{GivenStop, stuck_line_of, given_stuck_answer}
 use Rattle.jc_serve.proofs.PositionsLemmas.{at_given, of_given, at_before}
 

@@ -1,10 +1,10 @@
 -- Of `Subjects` and `AnswerOf`: what a text is, before anything is asked.
-use Rattle.std.proofs.Common.{◌≡◌, ℕ, ◌-◌, ◌<◌, ◌≤◌, List, [], length, take, replicate, codes, true, false, Some, None, Vec, Global, ◌≢◌, refl, sym, ap, subst, ◌∙◌, arith}
+use Rattle.std.proofs.Common.{◌≡◌, ℕ, ◌-◌, ◌<◌, List, [], length, take, replicate, codes, true, false, Some, None, Vec, Global, ◌≢◌, refl, sym, ap, subst, ◌∙◌, arith}
 use Rattle.std.proofs.lemmas.Option.{slice_get_within}
 use Rattle.jc_rules.specs.declared.limits.TheConstants.{MAX_BREAKS}
 use Rattle.jc_rules.specs.declared.operation.Event.{Event}
 use Rattle.jc_rules.specs.declared.refusal.Refusal.{Refusal}
-use Rattle.jc_rules.specs.Step.{Network, AfterIn}
+use Rattle.jc_rules.specs.Step.{AfterIn}
 use Rattle.jc_rules.proofs.VersionLemmas.{one_after_in}
 use Rattle.jc_parser.specs.declared.fault.ScenarioFault.{ScenarioFault}
 use Rattle.jc_parser.specs.declared.fault.ScenarioFault.TheVariants as ScenarioFaults

@@ -1,6 +1,6 @@
 -- Of `Answers`: breakpoints as they are told, and lists of them.
-use Rattle.std.proofs.Common.{◌≡◌, ℕ, suc, ◌+◌, ◌<◌, ◌≤◌, List, [], ◌∷◌, ◌++◌, length, map, take, get_or, Option, Some, None, option_map, sym, ap, subst, ◌∙◌, arith, append-nil}
-use Rattle.std.proofs.lemmas.List.{map_more, take_all, length-map, length-take-le}
+use Rattle.std.proofs.Common.{◌≡◌, ℕ, suc, ◌+◌, ◌<◌, List, [], ◌∷◌, ◌++◌, length, map, take, get_or, Option, Some, None, option_map, sym, ap, subst, ◌∙◌, arith, append-nil}
+use Rattle.std.proofs.lemmas.List.{map_more, length-map, length-take-le}
 use Rattle.jc_answers.specs.declared.arrays.ArrayText.{ArrayText}
 use Rattle.jc_answers.specs.declared.objects.Member.{Member}
 use Rattle.jc_answers.specs.JsonTexts.{NamedText, object_text}
@@ -14,12 +14,6 @@ use Rattle.jc_serve.specs.Marks.{Mark}
 
 pub one_member : (p : Member) (a : NamedText) → member_of p ≡ a ∷ [] → members_of (p ∷ []) ≡ a ∷ []
 one_member p a x = λ i. x i ++ []
-
-pub three_members : (p q r : Member) (a b c : NamedText) → member_of p ≡ a ∷ [] → member_of q ≡ b ∷ [] → member_of r ≡ c ∷ [] → members_of (p ∷ q ∷ r ∷ []) ≡ a ∷ b ∷ c ∷ []
-three_members p q r a b c x y z = λ i. x i ++ (y i ++ (z i ++ []))
-
-pub four_members : (p q r s : Member) (a b c d : NamedText) → member_of p ≡ a ∷ [] → member_of q ≡ b ∷ [] → member_of r ≡ c ∷ [] → member_of s ≡ d ∷ [] → members_of (p ∷ q ∷ r ∷ s ∷ []) ≡ a ∷ b ∷ c ∷ d ∷ []
-four_members p q r s a b c d x y z w = λ i. x i ++ (y i ++ (z i ++ (w i ++ [])))
 
 pub members_and_more : (p q r s t : Member) (a b c d : NamedText) → member_of p ≡ a ∷ [] → member_of q ≡ b ∷ [] → member_of r ≡ c ∷ [] → member_of s ≡ d ∷ [] → members_of (p ∷ q ∷ r ∷ s ∷ t ∷ []) ≡ a ∷ b ∷ c ∷ d ∷ member_of t
 members_and_more p q r s t a b c d x y z w = (λ i. x i ++ (y i ++ (z i ++ (w i ++ (member_of t ++ []))))) ∙ ap (λ more. a ∷ b ∷ c ∷ d ∷ more) (append-nil (member_of t))

@@ -1,13 +1,11 @@
 -- Of `AnswerOf`: the texts of replies in memory, and the answers of lines.
-use Rattle.std.proofs.Common.{◌≡◌, ℕ, ◌-◌, List, [], ◌++◌, length, slice_get, get_or, unwrap_or, Option, None, Some, MatchOption, codes, decimal, refl, ap, sym, subst, ◌∙◌, arith}
+use Rattle.std.proofs.Common.{◌≡◌, ℕ, ◌-◌, List, [], ◌++◌, length, slice_get, get_or, Option, None, Some, MatchOption, codes, decimal, refl, ap, sym, subst, ◌∙◌, arith}
 use Rattle.std.specs.List.{All}
 use Rattle.std.proofs.lemmas.Option.{get_or_from_slice_get}
 use Rattle.jc_rules.specs.declared.operation.Event.{Event}
 use Rattle.jc_rules.specs.declared.refusal.Refusal.TheVariants as F
 use Rattle.jc_rules.specs.declared.rule.Rule.{Rule}
-use Rattle.jc_rules.specs.ReplicaNames.{name_at}
 use Rattle.jc_rules.specs.Refused.{Cause}
-use Rattle.jc_rules.specs.State.{State}
 use Rattle.jc_printer.specs.Canon.{AreNamed}
 use Rattle.jc_network.specs.declared.fault.Stuck.{Stuck}
 use Rattle.jc_network.specs.Enabled.{AreEnabled, candidates}
@@ -19,9 +17,8 @@ use Rattle.jc_debug.specs.DebuggerState.{MakesEvent, RunOutcome}
 use Rattle.jc_debug.specs.Invariant.{Seen, start_of, session_of}
 use Rattle.jc_debug.specs.Moves.{IsTraceOf, IsEnd}
 use Rattle.jc_debug.proofs.BreaksLemmas.{one_makes}
-use Rattle.jc_dump.specs.Dump.{dump_line}
 use Rattle.jc_dump.specs.Lines.{stuck_text}
-use Rattle.jc_dump.specs.Texts.{block_text, dumps_text}
+use Rattle.jc_dump.specs.Texts.{block_text}
 use Rattle.jc_session.specs.declared.replies.Reply.{Reply as AnyReply}
 use Rattle.jc_session.specs.declared.replies.Reply.TheVariants as R
 use Rattle.jc_session.specs.Answers as A
@@ -32,7 +29,7 @@ use Rattle.jc_session.specs.Reply as Y
 use Rattle.jc_session.specs.Reply.{Reply}
 use Rattle.jc_session.specs.Requests as Q
 use Rattle.jc_session.specs.Requests.{Request, nothing, asks, bad, meaning}
-use Rattle.jc_session.specs.Texts.{at_line, refusal_line, where_line, ran_text, event_lines, numbered_lines, or_none_text, reply_text}
+use Rattle.jc_session.specs.Texts.{at_line, refusal_line, ran_text, event_lines, numbered_lines, or_none_text, reply_text}
 use Rattle.jc_session.proofs.AnswerOfLemmas.{of_all}
 use Rattle.jc_session.proofs.ChosenEventsLemmas.{one_enabled}
 use Rattle.jc_session.proofs.EventNamesLemmas.{replies_named, IsNamedIn, stuck_named}
@@ -100,29 +97,6 @@ told names due reply text h is = h ∙ ap (reply_text names) (sym is)
 pub stuck_told : (d : Seen) (net : NetworkHistory) (n : ℕ) (s : Stuck) (text : List ℕ) → net ≡ d.net → ((why : Cause) (event : Event) → s ≡ stuck_for why event → text ≡ at_line n ++ stuck_text net.names why event) → (r : Reply) → IsReply d (R.Stuck n s) r → text ≡ reply_text d.net.names r
 stuck_told d net n s text same h r (why, event, is, due) =
     told d.net.names (Y.went n (Some (event, why))) r text (h why event is ∙ ap (λ (c : NetworkHistory). at_line n ++ stuck_text c.names why event) same) due
-
-pub ran_told : (d : Seen) (net : NetworkHistory) (n : ℕ) (end : RunEnd) (text : List ℕ) → net ≡ d.net → ((outcome : RunOutcome) → IsEnd end outcome → text ≡ ran_text net.names n outcome) → (r : Reply) → IsReply d (R.Ran n end) r → text ≡ reply_text d.net.names r
-ran_told d net n end text same h r (outcome, is, due) =
-    told d.net.names (Y.ran n outcome) r text (h outcome is ∙ ap (λ (c : NetworkHistory). ran_text c.names n outcome) same) due
-
-pub states_told : (d : Seen) (net : NetworkHistory) (text : List ℕ) → net ≡ d.net → text ≡ dumps_text net.names net.history.now.states → (r : Reply) → IsReply d R.States r → text ≡ reply_text d.net.names r
-states_told d net text same h r due =
-    told d.net.names (Y.states d.net.history.now.states) r text (h ∙ ap (λ (c : NetworkHistory). dumps_text c.names c.history.now.states) same) due
-
-pub state_told : (d : Seen) (net : NetworkHistory) (p : ℕ) (text : List ℕ) → net ≡ d.net → ((C : State) → slice_get net.history.now.states p ≡ Some C → text ≡ dump_line net.names (name_at net.names p) C) → (r : Reply) → IsReply d (R.StateOf p) r → text ≡ reply_text d.net.names r
-state_told d net p text same h r (name, C, named, there, due) =
-    let at = subst (λ (c : NetworkHistory). slice_get c.history.now.states p ≡ Some C) (sym same) there in
-    let called : name_at d.net.names p ≡ name = ap (λ (o : Option (List ℕ)). unwrap_or o []) named in
-    told d.net.names (Y.state_of name C) r text (h C at ∙ ap (λ (c : NetworkHistory). dump_line c.names (name_at c.names p) C) same ∙ ap (λ (x : List ℕ). dump_line d.net.names x C) called) due
-
-pub enabled_told : (d : Seen) (net : NetworkHistory) (text : List ℕ) → net ≡ d.net → ((events : List Event) → AreEnabled net.history.now (candidates net.history.now) events → text ≡ or_none_text (event_lines net.names events)) → (r : Reply) → IsReply d R.Enabled r → text ≡ reply_text d.net.names r
-enabled_told d net text same h r (events, are, due) =
-    let here = subst (λ (c : NetworkHistory). AreEnabled c.history.now (candidates c.history.now) events) (sym same) are in
-    told d.net.names (Y.enabled events) r text (h events here ∙ ap (λ (c : NetworkHistory). or_none_text (event_lines c.names events)) same) due
-
-pub position_told : (d : Seen) (n m : ℕ) (text : List ℕ) → n ≡ length d.traces → m ≡ length d.schedule → text ≡ where_line n m → (r : Reply) → IsReply d R.Position r → text ≡ reply_text d.net.names r
-position_told d n m text at size h r due =
-    told d.net.names (Y.stands (length d.traces) (length d.schedule)) r text (h ∙ (λ i. where_line (at i) (size i))) due
 
 -- ---- answers
 

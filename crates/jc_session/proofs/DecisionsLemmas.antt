@@ -15,7 +15,7 @@ use Rattle.jc_rules.specs.ReplicaNames.{name_at}
 use Rattle.jc_rules.specs.Order.{same_id}
 use Rattle.jc_rules.specs.RuleNames.{rule_name}
 use Rattle.jc_rules.proofs.IdsLemmas.{same_id-self, same_id-true}
-use Rattle.jc_rules.proofs.RefusalsLemmas.{rule_place, rule_at, rule_within, names_differ}
+use Rattle.jc_rules.proofs.RefusalsLemmas.{rule_place, every_rule, rule_within, names_differ}
 use Rattle.jc_syntax.specs.declared.tree.Named.{Named}
 use Rattle.jc_syntax.specs.declared.tree.NamedEvent.{NamedEvent}
 use Rattle.jc_syntax.specs.declared.tree.NamedEvent.TheVariants as N
@@ -87,17 +87,6 @@ same_rule r s =
       | inl same ↦ inl (names_differ r s same)
       | inr other ↦ inr (λ same. other (ap rule_name same))
     ]
-
--- a list that has each rule at its place
-every_rule : (rules : List Rule) × ((r d : Rule) → get_or rules (rule_place r) d ≡ r)
-every_rule = (
-  R.Exec ∷ R.Let ∷ R.Var ∷ R.Doc ∷ R.Get ∷ R.Idx1 ∷ R.Idx2 ∷ R.Idx3 ∷ R.Idx4 ∷ R.Idx5
-      ∷ R.Keys1 ∷ R.Keys2 ∷ R.Keys3 ∷ R.Val1 ∷ R.Val2 ∷ R.Val3 ∷ R.MakeAssign ∷ R.MakeInsert ∷ R.MakeDelete ∷ R.MakeOp
-      ∷ R.ApplyLocal ∷ R.Send ∷ R.Recv ∷ R.RecvOne ∷ R.ApplyRemote ∷ R.Done ∷ R.Descend ∷ R.ChildGet ∷ R.ChildMap ∷ R.ChildList ∷ R.ChildReg
-      ∷ R.AddId1 ∷ R.AddId2 ∷ R.Presence1 ∷ R.Presence2 ∷ R.Assign ∷ R.EmptyMap ∷ R.EmptyList ∷ R.Insert1 ∷ R.Insert2 ∷ R.Delete
-      ∷ R.ClearElem ∷ R.ClearAny ∷ R.ClearNone ∷ R.ClearReg ∷ R.ClearMap1 ∷ R.ClearMap2 ∷ R.ClearMap3 ∷ R.ClearList1 ∷ R.ClearList2 ∷ R.ClearList3 ∷ [],
-  rule_at,
-)
 
 HasName : List ℕ → ℕ → Type 0
 HasName name k = rule_name (get_or every_rule.0 k R.Exec) ≡ name

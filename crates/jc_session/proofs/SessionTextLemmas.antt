@@ -18,7 +18,6 @@ use Rattle.jc_session.specs.LineReading.{ReadStopsAt}
 use Rattle.jc_session.specs.Sent.{OfLines, OfLinesLeft, LosesFront, GoesOn, BreaksOff, AnsweredAll, Answered, WentToRead, WentWhole, WentFront, IsNextSent, ends_in_lf, ends_at_end, IsPast}
 use Rattle.jc_session.specs.Progress.{SoFar}
 use Rattle.jc_io.specs.Written.{Stream, Wrote}
-use Rattle.jc_session.proofs.EventNamesLemmas.{answer_named}
 use Rattle.jc_io.proofs.WrittenLemmas.{wrote_both}
 use Rattle.jc_session.proofs.LinesDueLemmas.{take_whole, ended_append, due_all, due_front, due_bytes, due_lines}
 

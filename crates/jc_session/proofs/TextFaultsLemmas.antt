@@ -1,5 +1,5 @@
 -- Of `Answers`: the fault of a text is never want of memory, so it has a line.
-use Rattle.std.proofs.Common.{◌≡◌, ◌≢◌, ℕ, ◌+◌, List, [], ◌∷◌, length, Bool, true, false, ◌==◌, nat_lt, if◌then◌else◌, Option, Some, None, Result, Ok, Err, ◌⊎◌, inl, inr, refl, sym, subst, ◌∙◌}
+use Rattle.std.proofs.Common.{◌≡◌, ◌≢◌, ℕ, ◌+◌, List, Bool, true, false, ◌==◌, nat_lt, if◌then◌else◌, Option, Some, None, Result, Ok, Err, inl, inr, refl, sym, subst, ◌∙◌}
 use Rattle.std.specs.Prelude.{slice_index}
 use Rattle.std.specs.Str.Lossy.{utf8_valid_len}
 use Rattle.jc_rules.specs.declared.refusal.Refusal.{Refusal}
@@ -112,13 +112,8 @@ lexical_told text fault (inl (long, is)) = λ e. (let no : L.TextTooLong 8388608
 lexical_told text fault (inr (short, tokens, place, are, within, is)) = token_told text place fault is
 
 from_lexer_told : (fault : LexFault) → fault ≢ L.Memory → from_lexer fault ≢ S.Memory
-from_lexer_told (L.BadByte place) h e = cc
-from_lexer_told (L.OpenString place) h e = cc
-from_lexer_told (L.BadEscape place) h e = cc
-from_lexer_told (L.LoneSurrogate place) h e = cc
-from_lexer_told (L.BadNumber place) h e = cc
-from_lexer_told (L.TextTooLong place) h e = cc
 from_lexer_told L.Memory h e = h refl
+from_lexer_told _ h e = cc
 
 lexed_told : (text : List ℕ) (lexical : LexFault) (fault : ScenarioFault) → IsFaultOf text lexical → fault ≡ from_lexer lexical → fault ≢ S.Memory
 lexed_told text lexical fault is same e = from_lexer_told lexical (lexical_told text lexical is) (sym same ∙ e)

@@ -4,7 +4,7 @@ use Rattle.std.specs.List.{prefix_len}
 use Rattle.std.specs.Str.{IsUtf8, IsCharBoundary}
 use Rattle.std.proofs.lemmas.Bool.Decides.{nat_tests}
 use Rattle.std.proofs.lemmas.List.Sums.{prefix_len_passes, prefix_len-le-length}
-use Rattle.std.proofs.lemmas.Str.{IsCharBoundary-before_ascii, IsCharBoundary-after_ascii}
+use Rattle.std.proofs.lemmas.Str.{IsCharBoundary-after_ascii}
 use Rattle.jc_syntax.specs.declared.token.Token.{Token}
 use Rattle.jc_syntax.specs.declared.token.TokenKind.{TokenKind}
 use Rattle.jc_syntax.specs.declared.token.TokenKind.TheVariants.{Name, Number, Str, Assign}
@@ -75,9 +75,6 @@ first_ascii text t is = (first_letter text t is).1
 
 pub starts_inside : (text : List ℕ) (t : Token) → IsLexeme text t → t.start < length text
 starts_inside text t is = byte_inside text t.start (first_letter text t is).0
-
-pub start_boundary : (text : List ℕ) (t : Token) → IsLexeme text t → IsCharBoundary text t.start
-start_boundary text t is = IsCharBoundary-before_ascii text t.start (starts_inside text t is) (first_letter text t is).1
 
 pub starts_first : (text : List ℕ) (t : Token) → IsLexeme text t → t.start < t.stop
 starts_first text t is = lexeme_later text t (starts_inside text t is) is

@@ -327,23 +327,11 @@ child_changes ns at i t g path w kind absent =
 
 same_maps : (ch : Change) (n : Flat) → (changed_flat ch n).maps ≡ n.maps
 same_maps (Child (MapT k)) n = refl
-same_maps (Child (ListT k)) n = refl
-same_maps (Child (RegT k)) n = refl
-same_maps (AddId k i) n = refl
-same_maps (Presence k s) n = refl
-same_maps (Link k x) n = refl
-same_maps (PutValue k i v) n = refl
-same_maps (SetRegister k v) n = refl
+same_maps _ n = refl
 
 same_lists : (ch : Change) (n : Flat) → (changed_flat ch n).lists ≡ n.lists
 same_lists (Child (MapT k)) n = refl
-same_lists (Child (ListT k)) n = refl
-same_lists (Child (RegT k)) n = refl
-same_lists (AddId k i) n = refl
-same_lists (Presence k s) n = refl
-same_lists (Link k x) n = refl
-same_lists (PutValue k i v) n = refl
-same_lists (SetRegister k v) n = refl
+same_lists _ n = refl
 
 same_children : (u : Tagged) (ch : Change) (n : Flat) → child_number u (changed_flat ch n) ≡ child_number u n
 same_children (MapT q) ch n = ap (λ es. find key_cmp q es) (same_maps ch n)
@@ -354,12 +342,7 @@ same_children (RegT q) ch n = refl
 filled-changed : (g : ℕ → Context) (ch : Change) (n : Flat) → IsInside ch → with_children g (changed_flat ch n) ≡ changed_by ch (with_children g n)
 filled-changed g (Child (MapT k)) n h = absurd h
 filled-changed g (Child (ListT k)) n h = absurd h
-filled-changed g (Child (RegT k)) n h = refl
-filled-changed g (AddId k i) n h = refl
-filled-changed g (Presence k s) n h = refl
-filled-changed g (Link k x) n h = refl
-filled-changed g (PutValue k i v) n h = refl
-filled-changed g (SetRegister k v) n h = refl
+filled-changed g _ n h = refl
 
 fewer_id : (k : Key) (i : Id) (o : Option (List Id)) (l : List Flat) → fewer (former_of_id k i o) l ≡ l
 fewer_id k i None l = refl
@@ -376,12 +359,9 @@ fewer_value k i (Some r) l = refl
 fewer_inside : (ch : Change) (n : Flat) (l : List Flat) → IsInside ch → fewer (former_of_flat ch n) l ≡ l
 fewer_inside (Child (MapT k)) n l h = absurd h
 fewer_inside (Child (ListT k)) n l h = absurd h
-fewer_inside (Child (RegT k)) n l h = refl
 fewer_inside (AddId k i) n l h = fewer_id k i (find key_cmp k n.presences) l
-fewer_inside (Presence k s) n l h = refl
-fewer_inside (Link k x) n l h = refl
 fewer_inside (PutValue k i v) n l h = fewer_value k i (find key_cmp k n.registers) l
-fewer_inside (SetRegister k v) n l h = refl
+fewer_inside _ n l h = refl
 
 -- an identifier that was added to a key's set, taken back
 added_back : (k : Key) (i : Id) (n : Flat) → ((s : List Id) → find key_cmp k n.presences ≡ Some s → AreRising s) → restored_flat (former_of_flat (AddId k i) n) (changed_flat (AddId k i) n) ≡ n

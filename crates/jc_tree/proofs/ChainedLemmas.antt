@@ -53,7 +53,7 @@ leads-same c d k (i ∷ is) e h = (ap (find key_cmp k) e ∙ h.0, leads-same c d
 pub chain-same : (c d : Context) (is : List Id) → links d ≡ links c → IsChain c is → IsChain d is
 chain-same c d is e h = record { leads = leads-same c d Head is e h.leads; distinct = h.distinct; no_other = rw e h.no_other }
 
-new_list_chained : IsChainedList empty_list
+pub new_list_chained : IsChainedList empty_list
 new_list_chained = (([], record { leads = refl; distinct = (tt, tt); no_other = ((0, omega arith, refl), tt) }), tt, tt)
 
 -- a context with another chained map

@@ -17,7 +17,7 @@ use Rattle.jc_tree.specs.Tree.{least_after}
 use Rattle.jc_tree.specs.Undo.{removed, restored}
 use Rattle.jc_tree.specs.Numbered.{Numbering, IsNumbered, GetsNumber, at_number, IsSetAt, shown, column_entries}
 use Rattle.jc_tree.specs.Numbered.GetsNumber.{had, gets}
-pub use Rattle.jc_tree.proofs.NumberedLemmas.{number_within, keys_grow, has_number, one_key, key_at, number_at, blank_numbered, numbered_again, no_keys, popped_numbered}
+pub use Rattle.jc_tree.proofs.NumberedLemmas.{number_within, keys_grow, has_number, one_key, key_at, number_at, numbered_again, popped_numbered}
 use Rattle.jc_tree.proofs.NumberedLemmas.{get_taken, length_taken}
 use Rattle.jc_tree.proofs.ShownLemmas.{rising-shown, find-shown, put-shown, take-shown, new-shown, gone-shown, same-shown}
 use Rattle.jc_tree.proofs.ShownLeastLemmas.{none-shown, there-shown, further-shown}

@@ -1,5 +1,5 @@
 -- About Flags: flags once a set has changed.
-use Rattle.std.proofs.Common.{◌≡◌, ◌≢◌, ◌==◌, ◌<◌, ◌≤◌, ℕ, zero, suc, List, [], ◌∷◌, ◌++◌, length, take, replicate, slice_get, slice_set, Bool, true, false, not, Option, Some, None, option_map, refl, sym, ◌∙◌, ap, subst, true≢false, arith}
+use Rattle.std.proofs.Common.{◌≡◌, ◌≢◌, ◌==◌, ◌<◌, ◌≤◌, ℕ, zero, suc, List, [], ◌∷◌, length, take, slice_get, slice_set, Bool, true, false, not, Option, Some, None, option_map, refl, sym, ◌∙◌, ap, subst, true≢false, arith}
 use Rattle.std.proofs.lemmas.Bool.{eqb-true, eq-eqb}
 use Rattle.std.proofs.lemmas.List.{get_or-set_same, get_or-set_other, length-set}
 use Rattle.jc_rules.specs.declared.id.Id.{Id}
@@ -48,13 +48,6 @@ flags_written fs hs gs sets new n o b a s l w d g e =
     (omega (arith, w, ap length g, length-set hs n b))
     (ap (λ fs. flag_at fs n) g ∙ get_or-set_same hs n b false w ∙ e)
     (λ m other. ap (λ fs. flag_at fs m) g ∙ get_or-set_other hs n m b false other ∙ d m)
-
-behind : (fs : List Bool) (k m : ℕ) → flag_at (fs ++ replicate k false) m ≡ flag_at fs m
-behind [] zero m = refl
-behind [] (suc k) zero = refl
-behind [] (suc k) (suc m) = behind [] k m
-behind (f ∷ fs) k zero = refl
-behind (f ∷ fs) k (suc m) = behind fs k m
 
 no_flag : (most n : ℕ) → flag_at (take most []) n ≡ false
 no_flag zero n = refl

@@ -1,5 +1,5 @@
 -- About Nested: the lists of a plain store's node, and the context that it is.
-use Rattle.std.proofs.Common.{◌≡◌, ◌≢◌, List, ◌∷◌, ◌++◌, Bool, Option, Some, None, Bor, Result, Ok, Err, is_err, true, false, is_some, option_copied, IfSome, IsSomeAnd, OnOk, IfOk, refl, sym, ◌∙◌, ap}
+use Rattle.std.proofs.Common.{◌≡◌, ◌≢◌, List, ◌∷◌, ◌++◌, Bool, Option, Some, None, Bor, Result, Ok, Err, is_some, option_copied, IfSome, IsSomeAnd, OnOk, IfOk, refl, sym, ◌∙◌, ap}
 use Rattle.jc_rules.specs.declared.id.Id.{Id}
 use Rattle.jc_rules.specs.declared.key.Key.{Key}
 use Rattle.jc_rules.specs.declared.key.Next.{Next}
@@ -118,7 +118,3 @@ on_ok (Err e) f h = h
 pub if_ok : {A E : Type 0} {P Q : A → Type 0} (r : Result A E) → ((a : A) → P a → Q a) → IfOk r P → IfOk r Q
 if_ok (Ok a) f h = f a h
 if_ok (Err e) f h = h
-
-pub when_ok : {A E P : Type 0} (r : Result A E) → is_err r ≡ false → OnOk r P → P
-when_ok (Ok a) e h = h
-when_ok (Err x) e h = let no : true ≡ false = e in cc

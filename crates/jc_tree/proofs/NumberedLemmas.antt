@@ -256,22 +256,6 @@ module _ {X : Type 0} where
       go true q ih = rw q h.1
       go false q ih = rw q (all_removed (λ j. key_cmp e.0 j ≡ Less) k es h.0, ih)
 
--- nothing is a numbering
-pub blank_numbered : (t : Numbering) → t ≡ record { keys = []; order = [] } → IsNumbered t
-blank_numbered t h = subst IsNumbered (sym h) (record { rise = tt; same = λ k n. ((λ f. let c : None ≡ Some n = f in cc), (λ g. let c : None ≡ Some k = g in cc)) })
-
--- a numbering without keys has nothing in its order
-pub no_keys : (t : Numbering) → IsNumbered t → t.keys ≡ [] → t.order ≡ []
-no_keys t i h = go t.order refl
-  where
-    go : (es : List (Key × ℕ)) → t.order ≡ es → t.order ≡ []
-    go [] q = q
-    go (e ∷ es) q =
-        let f : find key_cmp e.0 t.order ≡ Some e.1 = ap (find key_cmp e.0) q ∙ rw (self e.0) refl in
-        let g : slice_get t.keys e.1 ≡ Some e.0 = key_at t i e.0 e.1 f in
-        let n : None ≡ Some e.0 = sym (ap (λ ks. slice_get ks e.1) h) ∙ g in
-        cc
-
 -- without the last key, which has the number m
 numbered_below : (k : Key) (m : ℕ) (t : Numbering) → IsNumbered t → length t.keys ≡ m + 1 → slice_get t.keys m ≡ Some k → IsNumbered (record { keys = take m t.keys; order = removed key_cmp k t.order })
 numbered_below k m t i l h = record { rise = sorted_removed k t.order i.rise; same = λ j n. (there j n, back j n) }

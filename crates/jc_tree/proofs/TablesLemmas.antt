@@ -1,5 +1,5 @@
 -- About Tables: what calls by key make of the entries of a column.
-use Rattle.std.proofs.Common.{◌≡◌, ◌<◌, ◌≤◌, ℕ, zero, suc, List, [], ◌∷◌, length, slice_get, slice_set, slice_index_or, Result, Ok, Err, OnOk, IfOk, IfSome, IfNone, Option, Some, None, is_some, true, false, Bor, option_map, option_copied, refl, sym, ◌∙◌, ap, subst, arith}
+use Rattle.std.proofs.Common.{◌≡◌, ◌<◌, ◌≤◌, ℕ, zero, suc, List, [], ◌∷◌, length, slice_get, slice_set, slice_index_or, IfSome, IfNone, Option, Some, None, is_some, true, false, Bor, option_map, option_copied, refl, sym, ◌∙◌, ap, subst, arith}
 use Rattle.std.proofs.lemmas.Option.{slice_get_past}
 use Rattle.jc_rules.specs.declared.key.Key.{Key}
 use Rattle.jc_rules.specs.Order.{key_cmp}
@@ -61,14 +61,6 @@ module _ {X : Type 0} where
 pub may_grow : (k : Key) (old new : Numbering) → MayNumber k old new → length old.keys ≤ length new.keys
 may_grow k old new (same e) = omega (arith, ap (λ t. length t.keys) e)
 may_grow k old new (numbers n i g) = keys_grow k n old new g
-
-pub on_ok : {A E P Q : Type 0} (r : Result A E) → (P → Q) → OnOk r P → OnOk r Q
-on_ok (Ok a) f h = f h
-on_ok (Err e) f h = h
-
-pub if_ok : {A E : Type 0} {P Q : A → Type 0} (r : Result A E) → ((a : A) → P a → Q a) → IfOk r P → IfOk r Q
-if_ok (Ok a) f h = f a h
-if_ok (Err e) f h = h
 
 module _ {X : Type 0} where
   -- the slot that a column lends

@@ -7,12 +7,8 @@ use Rattle.jc_rules.specs.History.{IsLater}
 use Rattle.jc_rules.proofs.HistoryLemmas.{still, later_still, later_step, mark_counts, undone}
 use Rattle.jc_tree.specs.Tree.{Tree, HasPlace, here, IsChanged}
 use Rattle.jc_tree.specs.Laws.{UndoLaw}
-use Rattle.jc_tree.proofs.PlacesLemmas.{then_node, then_here, then_place}
+use Rattle.jc_tree.proofs.PlacesLemmas.{then_here, then_place}
 use Rattle.jc_rules.proofs.ContextLemmas.{none_some}
-
--- the changed context is at its place
-pub node_changed : (at : List Tagged) (y : Context) (a b : Tree) → HasPlace at a → IsChanged at y a b → node_at at b.now ≡ Some y
-node_changed at y a b place c = then_node at y a b place c.now
 
 pub still_place : (at : List Tagged) (y : Context) (a b : Tree) → HasPlace at a → IsChanged at y a b → HasPlace at b
 still_place at y a b place c = then_place at y a b place c.now

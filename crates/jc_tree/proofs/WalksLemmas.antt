@@ -139,7 +139,7 @@ pub record IsNext (last : Option Key) (ks : List Key) (k : Key) : Type 0 where
   pub below : AllByRecursion (λ j. is_after last j ≡ true → key_cmp k j ≢ Greater) ks
   pub fewer : length (filter (λ j. is_after (Some k) j) ks) < length (filter (λ j. is_after last j) ks)
 
-lt_less : (i j : Key) → is_lt (key_cmp i j) ≡ true → key_cmp i j ≡ Less
+pub lt_less : (i j : Key) → is_lt (key_cmp i j) ≡ true → key_cmp i j ≡ Less
 lt_less i j e = go (key_cmp i j) refl
   where
     go : (o : Ordering) → key_cmp i j ≡ o → key_cmp i j ≡ Less

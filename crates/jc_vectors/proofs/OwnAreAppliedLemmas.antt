@@ -1,13 +1,12 @@
 -- About OwnAreApplied of specs/StateLaws: what a replica has applied stays applied.
 use Rattle.std.proofs.Common.{◌≡◌, ℕ, zero, suc, List, [], ◌∷◌, true, ◌∙◌, ap, subst, arith}
-use Rattle.std.specs.Prelude.{Contains}
 use Rattle.jc_rules.specs.declared.id.Id.{Id}
 use Rattle.jc_rules.specs.declared.operation.Event.TheVariants as E
 use Rattle.jc_rules.specs.declared.operation.Event.{Event}
 use Rattle.jc_rules.specs.declared.operation.Op.{Op}
 use Rattle.jc_rules.specs.declared.rule.Rule.{Rule}
 use Rattle.jc_rules.specs.declared.rule.Rule.TheVariants as R
-use Rattle.jc_rules.specs.Derivation.{Question, Occur, Run, Evaluate, SelectIndex, SelectKeys, SelectValues, Make, ApplyOp, Operate, Child, AddId, Presence, Clear, ClearAny, ClearElem, ClearMap, ClearList, Answer, ToState, Judgement, gives, Derivation, derive, Premises, none, premise, conclusions, conclusion}
+use Rattle.jc_rules.specs.Derivation.{Question, Occur, Run, Make, ApplyOp, Answer, ToState, Judgement, gives, Derivation, derive, Premises, none, premise, conclusions, conclusion}
 use Rattle.jc_rules.specs.Derives.{Derives}
 use Rattle.jc_rules.specs.Ids.{has_id, with_id, AreIn}
 use Rattle.jc_rules.specs.Order.{same_id}
@@ -37,19 +36,6 @@ with_more_in : (i : Id) (s : List Id) → AreIn s (with_id i s)
 with_more_in i s k h = has_id-with k i s ∙ or_right (same_id k i) (has_id k s) h
 
 step : (r : Rule) (q : Question) (a : Answer) (ps : List Judgement) → Follows r q a ps → AllGrow ps → Grows (gives q a)
-step r (Evaluate A e) a ps h g = tt
-step r (SelectIndex c cur i) a ps h g = tt
-step r (SelectKeys c cur) a ps h g = tt
-step r (SelectValues c cur) a ps h g = tt
-step r (Operate c o) a ps h g = tt
-step r (Child c k) a ps h g = tt
-step r (AddId c k i m) a ps h g = tt
-step r (Presence c k) a ps h g = tt
-step r (Clear c d k) a ps h g = tt
-step r (ClearAny c d k) a ps h g = tt
-step r (ClearElem c d k) a ps h g = tt
-step r (ClearMap c d done) a ps h g = tt
-step r (ClearList c d k) a ps h g = tt
 step R.Exec (Occur A (E.Exec p) os) a ps (c, rest, B, e1, n, e2, e3) g =
     let in_b = subst AllGrow e2 g in
     rw e3 in_b.0
@@ -72,7 +58,11 @@ step R.Recv (Occur A (E.Recv p q) os) a ps (rest, e1, e2, e3) g = rw e3 (λ i h.
 step R.RecvOne (Occur A (E.Take p q i) os) a ps (rest, o, e1, e2, e3, e4) g = rw e4 (λ j h. h)
 step R.ApplyRemote (Occur A (E.Apply p i) os) a ps (rest, o, t, e1, e2, e3, d, e4, e5) g = rw e5 (with_more_in i A.ops)
 step R.Done (Occur A (E.Done p) os) a ps (rest, e1, e2, e3, e4) g = rw e4 (λ i h. h)
-step _ _ a ps h g = absurd h
+step _ (Occur A e os) a ps h g = absurd h
+step _ (Run p A c) a ps h g = absurd h
+step _ (Make p A cur m) a ps h g = absurd h
+step _ (ApplyOp p A o) a ps h g = absurd h
+step _ _ a ps h g = tt
 
 mutual
   grows : (d : Derivation) → Holds d → Grows (conclusion d)

@@ -1,17 +1,15 @@
 -- About Agree of specs/KnownIds: dependencies that agree on all known identifiers give the same derivation.
-use Rattle.std.proofs.Common.{◌≡◌, ℕ, zero, suc, ◌+◌, List, [], ◌∷◌, ◌++◌, Some, None, refl, sym, ◌∙◌, ap}
+use Rattle.std.proofs.Common.{◌≡◌, ℕ, ◌+◌, List, [], ◌∷◌, ◌++◌, Some, None, refl, sym, ◌∙◌, ap}
 use Rattle.jc_rules.specs.declared.id.Id.{Id}
 use Rattle.jc_rules.specs.declared.key.Key.TheVariants as K
 use Rattle.jc_rules.specs.declared.key.Tagged.TheVariants.{MapT, ListT, RegT}
 use Rattle.jc_rules.specs.declared.key.Next.TheVariants.{Elem as To}
-use Rattle.jc_rules.specs.declared.operation.Event.TheVariants as E
 use Rattle.jc_rules.specs.declared.rule.Rule.{Rule}
 use Rattle.jc_rules.specs.declared.rule.Rule.TheVariants as R
 use Rattle.jc_rules.specs.Order.{id_cmp}
 use Rattle.jc_rules.specs.Entries.{put, keys_of}
 use Rattle.jc_rules.specs.Ids.{has_id, with_id, union, without}
 use Rattle.jc_rules.specs.Context.{Node, Values, Register, with_content, with_presence, with_next, key_of_tagged}
-use Rattle.jc_rules.specs.Syntax.{TheDoc, Variable, GetKey, Index, KeysOf, ValuesOf, LetIn, SetTo, InsertAfter, DeleteAt}
 use Rattle.jc_rules.specs.Derivation.{Question, Occur, Run, Evaluate, SelectIndex, SelectKeys, SelectValues, Make, ApplyOp, Operate, Child, AddId, Presence, Clear, ClearAny, ClearElem, ClearMap, ClearList, Answer, ToContext, ToContent, ToIds, Cleared, Judgement, gives, asked, answered, Derivation, derive, Premises, none, premise, conclusions, conclusion, trace, traces}
 use Rattle.jc_rules.specs.Table.{Follows, Holds, AllHold, kept}
 use Rattle.jc_rules.specs.Derives.{Derives}
@@ -53,17 +51,7 @@ module _ (P : Id → Type 0) (e : List Id) where
   swap_question (ClearElem c d k) = ClearElem c e k
   swap_question (ClearMap c d done) = ClearMap c e done
   swap_question (ClearList c d k) = ClearList c e k
-  swap_question (Occur A v s) = Occur A v s
-  swap_question (Run p A c) = Run p A c
-  swap_question (Evaluate A x) = Evaluate A x
-  swap_question (SelectIndex c cur i) = SelectIndex c cur i
-  swap_question (SelectKeys c cur) = SelectKeys c cur
-  swap_question (SelectValues c cur) = SelectValues c cur
-  swap_question (Make p A cur m) = Make p A cur m
-  swap_question (ApplyOp p A o) = ApplyOp p A o
-  swap_question (Child c k) = Child c k
-  swap_question (AddId c k i m) = AddId c k i m
-  swap_question (Presence c k) = Presence c k
+  swap_question q = q
 
   abbrev swap_judgement : Judgement → Judgement
   swap_judgement (gives q a) = gives (swap_question q) a
@@ -86,32 +74,14 @@ module _ (P : Id → Type 0) (e : List Id) where
   Steps r q a ps = Flows ps × (AllKnown ps → KnownAnswer a × Follows r (swap_question q) a (swap_judgements ps))
 
   step : (r : Rule) (q : Question) (a : Answer) (ps : List Judgement) → Follows r q a ps → KnownQuestion q → Steps r q a ps
-  step R.Exec (Occur A (E.Exec p) _) a ps h k0 = absurd k0
-  step R.Let (Run p A (LetIn x e)) a ps h k0 = absurd k0
-  step R.Var (Evaluate A (Variable x)) a ps h k0 = absurd k0
-  step R.Doc (Evaluate A TheDoc) a ps h k0 = absurd k0
-  step R.Get (Evaluate A (GetKey e name)) a ps h k0 = absurd k0
-  step R.Idx1 (Evaluate A (Index e i)) a ps h k0 = absurd k0
-  step R.Idx2 (SelectIndex c cur i) a ps h k0 = absurd k0
-  step R.Idx3 (SelectIndex c cur (suc i)) a ps h k0 = absurd k0
-  step R.Idx4 (SelectIndex c cur (suc i)) a ps h k0 = absurd k0
-  step R.Idx5 (SelectIndex c cur zero) a ps h k0 = absurd k0
-  step R.Keys1 (Evaluate A (KeysOf e)) a ps h k0 = absurd k0
-  step R.Keys2 (SelectKeys c cur) a ps h k0 = absurd k0
-  step R.Keys3 (SelectKeys c cur) a ps h k0 = absurd k0
-  step R.Val1 (Evaluate A (ValuesOf e)) a ps h k0 = absurd k0
-  step R.Val2 (SelectValues c cur) a ps h k0 = absurd k0
-  step R.Val3 (SelectValues c cur) a ps h k0 = absurd k0
-  step R.MakeAssign (Run p A (SetTo e v)) a ps h k0 = absurd k0
-  step R.MakeInsert (Run p A (InsertAfter e v)) a ps h k0 = absurd k0
-  step R.MakeDelete (Run p A (DeleteAt e)) a ps h k0 = absurd k0
-  step R.MakeOp (Make p A cur m) a ps h k0 = absurd k0
-  step R.ApplyLocal (ApplyOp p A o) a ps h k0 = absurd k0
-  step R.Send (Occur A (E.Send p) _) a ps h k0 = absurd k0
-  step R.Recv (Occur A (E.Recv p q) sent) a ps h k0 = absurd k0
-  step R.RecvOne (Occur A (E.Take p q i) sent) a ps h k0 = absurd k0
-  step R.ApplyRemote (Occur A (E.Apply p i) _) a ps h k0 = absurd k0
-  step R.Done (Occur A (E.Done p) _) a ps h k0 = absurd k0
+  step _ (Occur A v s) a ps h k0 = absurd k0
+  step _ (Run p A c) a ps h k0 = absurd k0
+  step _ (Evaluate A x) a ps h k0 = absurd k0
+  step _ (SelectIndex c cur i) a ps h k0 = absurd k0
+  step _ (SelectKeys c cur) a ps h k0 = absurd k0
+  step _ (SelectValues c cur) a ps h k0 = absurd k0
+  step _ (Make p A cur m) a ps h k0 = absurd k0
+  step _ (ApplyOp p A o) a ps h k0 = absurd k0
   step R.Descend (Operate c o) a ps (k1, rest, d, en, c2, e1, e2, e3) k =
       rw (e2, e3) ((k.0, λ x. ((x, k.1, k.2), λ y. ((k.0, k.1), λ z. tt))), λ all. (each-with_content P k1 (Node en) c2 all.1.1.0 all.1.0, (k1, rest, d, en, c2, e1, refl, refl)))
   step R.ChildGet (Child c k) a ps (x, e1, e2, e3) k0 =

@@ -1,7 +1,6 @@
 -- About Visible and Parts: the elements of a list, written one after another.
 use Rattle.std.proofs.Common.{◌≡◌, ◌≢◌, ℕ, zero, suc, ◌-◌, ◌<◌, ◌≤◌, List, [], ◌∷◌, ◌++◌, Bool, true, false, cond, Option, Some, None, is_some, length, append_assoc, refl, sym, ◌∙◌, ap, subst, arith}
 use Rattle.json.specs.Json.{Json}
-use Rattle.json.specs.Token.{Token}
 use Rattle.json.specs.Token as T
 use Rattle.json.specs.Tree.{json_tokens, items_tokens}
 use Rattle.json.specs.Written.{Written}

@@ -1,5 +1,5 @@
 -- About Visible and Parts: the members of a map, written one after another; what is shown at a key; the line.
-use Rattle.std.proofs.Common.{◌≡◌, ℕ, zero, suc, ◌<◌, ◌≤◌, List, [], ◌∷◌, ◌++◌, Bool, true, false, cond, Option, Some, None, is_some, length, take, get_or, Bor, Contains, append_assoc, refl, sym, ◌∙◌, ap, subst, codes, arith}
+use Rattle.std.proofs.Common.{◌≡◌, ℕ, suc, ◌<◌, ◌≤◌, List, [], ◌∷◌, ◌++◌, Bool, true, false, cond, Option, Some, None, is_some, length, take, get_or, Bor, Contains, append_assoc, refl, sym, ◌∙◌, ap, subst, codes, arith}
 use Rattle.std.specs.List.{AllByRecursion}
 use Rattle.json.specs.Json.{Json, Members, no_members, member, object}
 use Rattle.json.specs.Print.{print}
@@ -34,6 +34,7 @@ use Rattle.jc_view.specs.Parts.{parts_shown_at, node_json, child_json, shows_at,
 use Rattle.jc_view.proofs.PresentLemmas.{present_by, place_is}
 use Rattle.jc_view.proofs.ElementsLemmas.{items_tokens_are}
 use Rattle.jc_json.proofs.GainsLemmas.{gains_then}
+use Rattle.jc_cursor.proofs.MapNamesLemmas.{one_lent_more}
 
 pub members_tokens_are : (show : Key → Json) (p : List (Key × List Id)) → members_tokens (members_at show p) ≡ members_front show p ++ T.end_object ∷ []
 members_tokens_are show [] = refl
@@ -55,11 +56,6 @@ present-append : (p q : List (Key × List Id)) → present (p ++ q) ≡ present 
 present-append [] q = refl
 present-append ((k, []) ∷ p) q = present-append p q
 present-append ((k, i ∷ is) ∷ p) q = ap (λ r. (k, i ∷ is) ∷ r) (present-append p q)
-
-one_lent_more : (lent : List (Bor Key × Hint)) (n : ℕ) (x : Bor Key × Hint) → n < length lent → x ≡ get_or lent n x → take (suc n) (keys_lent lent) ≡ take n (keys_lent lent) ++ x.0.now ∷ []
-one_lent_more [] n x h e = absurd (omega arith)
-one_lent_more (l ∷ lent) zero x h e = ap (λ (y : Bor Key × Hint). y.0.now ∷ []) (sym e)
-one_lent_more (l ∷ lent) (suc n) x h e = ap (λ ks. l.0.now ∷ ks) (one_lent_more lent n x (omega arith) e)
 
 -- the members at the first so many of the keys
 abbrev pub members_among : (Key → Json) → List (Bor Key × Hint) → ℕ → Context → List Token

@@ -1,7 +1,7 @@
 -- About Laws: what is shown has numbers of JSON alone.
 use Rattle.std.proofs.Common.{◌≡◌, ℕ, List, [], ◌∷◌, ◌++◌, Bool, true, false, cond, Option, Some, None, is_some, length, refl, codes}
 use Rattle.std.specs.List.{AllByRecursion}
-use Rattle.json.specs.Json.{Json, object, Items, Members}
+use Rattle.json.specs.Json.{Json, Members}
 use Rattle.json.specs.Tree.{HasNumbers, ItemsHaveNumbers, MembersHaveNumbers}
 use Rattle.json.specs.Word.{after_number}
 use Rattle.jc_rules.specs.declared.id.Id.{Id}
@@ -27,12 +27,7 @@ literal None s e = tt
 
 value_numbers : (v : Value) → HasNumbers (value_json v)
 value_numbers (V.Number s) = literal (after_number s) s refl
-value_numbers (V.Str s) = tt
-value_numbers V.True = tt
-value_numbers V.False = tt
-value_numbers V.Null = tt
-value_numbers V.EmptyMap = tt
-value_numbers V.EmptyList = tt
+value_numbers _ = tt
 
 pairs_numbers : (names : List (List ℕ)) (r : Register) → ItemsHaveNumbers (pair_items Plain names r)
 pairs_numbers names [] = tt

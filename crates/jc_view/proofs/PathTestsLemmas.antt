@@ -1,16 +1,11 @@
 -- About Parts: what the tests of `alive` decide of the paths of operations.
-use Rattle.std.proofs.Common.{◌≡◌, List, [], ◌∷◌, length, arith, Bool, true, false, ◌&&◌, IsTrue, ◌↔◌, Option, Some, refl, sym, ◌∙◌, ap, subst}
+use Rattle.std.proofs.Common.{◌≡◌, List, [], ◌∷◌, length, arith, Bool, true, false, ◌&&◌, IsTrue, ◌↔◌, Option, refl, sym, ◌∙◌, ap, subst}
 use Rattle.jc_rules.specs.declared.key.Key.{Key}
 use Rattle.jc_rules.specs.declared.key.Tagged.{Tagged}
-use Rattle.jc_rules.specs.declared.key.Tagged.TheVariants.{MapT, ListT, RegT}
 use Rattle.jc_rules.specs.declared.value.Value.{Value}
-use Rattle.jc_rules.specs.declared.value.Value.TheVariants as V
-use Rattle.jc_rules.specs.Context.{key_of_tagged}
-use Rattle.jc_rules.specs.Order.{same_key}
 use Rattle.jc_rules.proofs.BoolLemmas.{not_so}
-use Rattle.jc_meaning.specs.Effects.{same_tagged, is_made_by, passed}
+use Rattle.jc_meaning.specs.Effects.{same_tagged, passed}
 use Rattle.jc_meaning.proofs.TagsLemmas.{tags_eq, tags_self}
-use Rattle.jc_view.specs.Parts.{has_tag_of}
 
 pub tag_told : (b : Bool) (t u : Tagged) → (IsTrue b ↔ (t ≡ u)) → b ≡ same_tagged t u
 tag_told true t u h = sym (subst (λ v. same_tagged t v ≡ true) (h.0 refl) (tags_self t))
@@ -27,27 +22,3 @@ passed_apart path k v at u t ts s ss e f apart = rw (e, f) (ap (λ b. b && passe
 
 pub passed_on : (path : List Tagged) (k : Key) (v : Option Value) (at : List Tagged) (u t : Tagged) (ts : List Tagged) (s : Tagged) (ss : List Tagged) (r : Bool) → path ≡ t ∷ ts → at ≡ s ∷ ss → t ≡ s → r ≡ passed ts k v ss u → r ≡ passed path k v at u
 passed_on path k v at u t ts s ss r e f same h = rw (e, f) (h ∙ ap (λ b. b && passed ts k v ss u) (sym (subst (λ w. same_tagged t w ≡ true) same (tags_self t))))
-
--- what a value makes, by its tag and its key
-pub made_by : (v : Value) (k : Key) (t : Tagged) → (has_tag_of v t && same_key k (key_of_tagged t)) ≡ is_made_by (Some v) k t
-made_by (V.Number s) k (MapT l) = refl
-made_by (V.Number s) k (ListT l) = refl
-made_by (V.Number s) k (RegT l) = refl
-made_by (V.Str s) k (MapT l) = refl
-made_by (V.Str s) k (ListT l) = refl
-made_by (V.Str s) k (RegT l) = refl
-made_by V.True k (MapT l) = refl
-made_by V.True k (ListT l) = refl
-made_by V.True k (RegT l) = refl
-made_by V.False k (MapT l) = refl
-made_by V.False k (ListT l) = refl
-made_by V.False k (RegT l) = refl
-made_by V.Null k (MapT l) = refl
-made_by V.Null k (ListT l) = refl
-made_by V.Null k (RegT l) = refl
-made_by V.EmptyMap k (MapT l) = refl
-made_by V.EmptyMap k (ListT l) = refl
-made_by V.EmptyMap k (RegT l) = refl
-made_by V.EmptyList k (MapT l) = refl
-made_by V.EmptyList k (ListT l) = refl
-made_by V.EmptyList k (RegT l) = refl

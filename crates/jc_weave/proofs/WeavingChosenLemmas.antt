@@ -34,7 +34,7 @@ put_long [] d y = refl
 put_long (x ∷ xs) zero y = refl
 put_long (x ∷ xs) (suc d) y = ap suc (put_long xs d y)
 
-same_number : (a b : ℕ) → nat_eq a b ≡ true → a ≡ b
+pub same_number : (a b : ℕ) → nat_eq a b ≡ true → a ≡ b
 same_number a b h = search (rules, h)
 
 other_number : (a b : ℕ) → nat_eq a b ≡ false → a ≡ b → ⊥

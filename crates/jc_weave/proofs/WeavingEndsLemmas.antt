@@ -20,9 +20,7 @@ use Rattle.jc_weave.specs.Looms.{Loom, LoomTurn, makes, finishes, gets_stuck, We
 use Rattle.jc_weave.specs.Weaving.{first_loom, made_events, stuck_events, numbers_from, end_of_left, end_of_state, end_or, end_in, ends_in, IsWoven}
 use Rattle.jc_weave.proofs.LoomsLemmas.{In, drawn_live}
 use Rattle.jc_weave.proofs.WeavingLemmas.{weaves_after, weaves_count}
-
-same_number : (a b : ℕ) → nat_eq a b ≡ true → a ≡ b
-same_number a b h = search (rules, h)
+use Rattle.jc_weave.proofs.WeavingChosenLemmas.{same_number}
 
 -- ---- who is left
 

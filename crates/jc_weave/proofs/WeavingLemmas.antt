@@ -6,8 +6,6 @@ use Rattle.jc_rules.specs.declared.operation.Event.{Event}
 use Rattle.jc_rules.specs.declared.rule.Rule.{Rule}
 use Rattle.jc_rules.specs.Step.{Network, StepIn, AfterIn}
 use Rattle.jc_network.specs.declared.fault.Stuck.{Stuck}
-use Rattle.jc_network.specs.Given.{IsStarted}
-use Rattle.jc_network.specs.NetworkHistory.{NetworkHistory}
 use Rattle.jc_network.specs.Steps.{IsStuckFor}
 use Rattle.jc_scenario.specs.WellFormed.{Scenario}
 use Rattle.jc_choice.specs.declared.phase.Phase.{Phase}
@@ -15,7 +13,7 @@ use Rattle.jc_choice.specs.declared.end.End.{End}
 use Rattle.jc_choice.specs.Chosen.{choice}
 use Rattle.jc_choice.specs.Legal.{IsLegal}
 use Rattle.jc_weave.specs.Looms.{Loom, LoomTurn, makes, finishes, gets_stuck, IsLoomTurn, WeavesTo, LeavesLoom, phase_at, pool, drawn_of, without_replica}
-use Rattle.jc_weave.specs.Weaving.{seeded, all_start, numbers_from, loom, first_loom, with_made, made_events, with_stuck, stuck_events, ends_in, IsLoomAfter, IsOneTurnMore, IsWoven}
+use Rattle.jc_weave.specs.Weaving.{loom, first_loom, with_made, made_events, with_stuck, stuck_events, ends_in, IsLoomAfter, IsOneTurnMore, IsWoven}
 
 -- ---- one turn more
 

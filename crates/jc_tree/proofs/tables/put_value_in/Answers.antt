@@ -8,8 +8,9 @@ use Rattle.jc_tree.specs.Numbered.{column_entries}
 use Rattle.jc_tree.specs.Tables.MayNumber.{numbers}
 use Rattle.jc_tree.proofs.SortedMapLemmas.{as_err}
 use Rattle.jc_tree.proofs.ColumnLemmas.{same_column, put_column}
-use Rattle.jc_tree.proofs.TablesLemmas.{put_within, put_slot, former_slot, slot_here, no_slot, on_ok, if_ok}
+use Rattle.jc_tree.proofs.TablesLemmas.{put_within, put_slot, former_slot, slot_here, no_slot}
 use Rattle.jc_tree.proofs.tables.put_value_in.Goals as goal
+use Rattle.jc_tree.proofs.NodeLemmas.{on_ok, if_ok}
 
 pub returns-in_err-single-clause-numbers : goal.returns-in_err-single-clause-numbers
 returns-in_err-single-clause-numbers c = numbers c.in_ok-number.number c.number_of.ensures.numbered.0 c.in_ok-number.ensures.ok

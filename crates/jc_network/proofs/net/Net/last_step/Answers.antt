@@ -1,4 +1,4 @@
-use Rattle.std.proofs.Common.{◌≡◌, ◌<◌, ◌-◌, ℕ, [], ◌∷◌, ◌++◌, length, reverse, take, slice_get, Some, ◌∙◌, ap, subst, arith}
+use Rattle.std.proofs.Common.{◌≡◌, ◌<◌, ◌-◌, ℕ, [], ◌∷◌, ◌++◌, length, take, slice_get, Some, ◌∙◌, ap, subst, arith}
 use Rattle.jc_network.specs.LastStep.{NetHasLastStep}
 use Rattle.jc_network.specs.NetworkHistory.{NetworkHistory}
 use Rattle.jc_network.proofs.HalvesLemmas.{index_get}

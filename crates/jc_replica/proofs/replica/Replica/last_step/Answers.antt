@@ -1,12 +1,10 @@
-use Rattle.std.proofs.Common.{◌≡◌, ◌-◌, ◌<◌, ◌≤◌, List, [], ◌∷◌, ◌++◌, length, map, take, drop, slice_get, get_or, Some, refl, sym, ◌∙◌, ap, subst, arith, option_copied, length-take-le}
-use Rattle.std.proofs.lemmas.List.{length-map}
+use Rattle.std.proofs.Common.{◌≡◌, ◌-◌, List, [], ◌∷◌, ◌++◌, length, map, take, drop, slice_get, get_or, Some, sym, ◌∙◌, ap, arith, option_copied, length-take-le}
 use Rattle.jc_rules.specs.declared.operation.Op.{Op}
 use Rattle.jc_rules.specs.Table.{op_of}
 use Rattle.jc_rules.proofs.RepresentationLemmas.{looked_up}
 use Rattle.jc_syntax.specs.declared.tree.Cmd.{Cmd as CmdTree}
 use Rattle.jc_syntax.specs.Trees.{cmd_of}
 use Rattle.jc_cursor.specs.Bounds.{vars_of}
-use Rattle.jc_replica.specs.declared.record.Change.TheVariants as C
 use Rattle.jc_replica.specs.declared.last_step.LastStep.TheVariants as L
 use Rattle.jc_replica.specs.ReplicaHistory.{ReplicaHistory}
 use Rattle.jc_replica.specs.Undo.{Held, held_of}

@@ -1,4 +1,4 @@
-use Rattle.std.proofs.Common.{rules, ◌≡◌, ◌++◌, ◌∷◌, [], List, Some, take, unwrap_or, option_copied, Bor, refl, sym, ap, subst, ◌∙◌}
+use Rattle.std.proofs.Common.{rules, ◌≡◌, ◌++◌, ◌∷◌, [], List, take, unwrap_or, option_copied, Bor, refl, sym, ap, subst, ◌∙◌}
 use Rattle.jc_rules.specs.declared.operation.Op.{Op}
 use Rattle.jc_rules.specs.Trace.{pushed}
 use Rattle.jc_cursor.specs.Bounds.{vars_of}

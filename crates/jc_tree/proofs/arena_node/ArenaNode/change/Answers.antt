@@ -6,9 +6,9 @@ use Rattle.jc_rules.specs.Entries.{find, put}
 use Rattle.jc_tree.specs.Arena.{Flat, changed_flat}
 use Rattle.jc_tree.specs.Tree.{or_no_entries}
 use Rattle.jc_tree.proofs.SortedMapLemmas.{on_err}
-use Rattle.jc_tree.proofs.TablesLemmas.{on_ok}
 use Rattle.jc_tree.proofs.ArenaNodeLemmas.{within_registers, count_stays, fit_stays, seen_registers}
 use Rattle.jc_tree.proofs.arena_node.ArenaNode.change.Goals as goal
+use Rattle.jc_tree.proofs.NodeLemmas.{on_ok}
 
 pub invariant_of-self : goal.invariant_of-self
 invariant_of-self c = record {
