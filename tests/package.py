@@ -22,7 +22,7 @@ from launching import BY_RULES, tree
 RULES = Rules()
 KIT = sorted(name for name in os.listdir("kit") if os.path.exists(os.path.join("kit", name, "about")))
 DEBIAN = "/usr/bin/python3"
-FEWEST_IMPORTS, LONGEST_IMPORT = 7, 0.2
+MOST_IMPORT_CALLS = 45_000
 
 
 def kit_file(name, file):
@@ -506,21 +506,20 @@ def is_installed(_):
 
 
 IMPORTED = """
-import time
-import sys
+import cProfile, pstats, sys
 sys.path.insert(0, "python")
-start = time.process_time()
-import jsoncrdt
-for name in jsoncrdt.__all__:
-    getattr(jsoncrdt, name)
-print(time.process_time() - start)
+with cProfile.Profile() as profile:
+    import jsoncrdt
+    for name in jsoncrdt.__all__:
+        getattr(jsoncrdt, name)
+print(pstats.Stats(profile).total_calls)
 """
 
 
 def is_imported_at_once(_):
-    """All of it, by the least processor time of several imports: the time by the clock is that of a busy machine."""
-    times = [float(called([sys.executable, "-c", IMPORTED]).stdout) for _ in range(FEWEST_IMPORTS)]
-    expect(min(times) < LONGEST_IMPORT, f"{times}")
+    """All of it, by the calls that this takes: they are as many on a busy machine, where seconds are not."""
+    calls = int(called([sys.executable, "-c", IMPORTED]).stdout)
+    expect(calls < MOST_IMPORT_CALLS, f"{calls} calls")
 
 
 # ---- strategies
