@@ -440,10 +440,10 @@ HANGING = ('#!/bin/sh\nread line\n[ "$line" = quit ] && { echo \'{"quit":true}\'
 def loses_no_time(_):
     """A process that doesn't answer, or answers no line, is given up after a time, and so is one that reads nothing."""
     with folder_of({"hanging": HANGING, "dying": HANGING.replace("exec sleep 60", "printf half; exit 7")}) as folder:
-        for name, text, why in (("hanging", b"x", "gives no answer in 1 seconds"),
-                                ("hanging", b"x" * 4_000_000, "reads nothing for 1 seconds"),
-                                ("dying", b"x", "ended with 7")):
-            process = Process(os.path.join(folder, name), seconds=1)
+        for name, text, seconds, why in (("hanging", b"x", 1, "gives no answer in 1 seconds"),
+                                         ("hanging", b"x" * 4_000_000, 1, "reads nothing for 1 seconds"),
+                                         ("dying", b"x", 60, "ended with 7")):
+            process = Process(os.path.join(folder, name), seconds=seconds)
             try:
                 process.bring(text)
             except Lost as lost:
