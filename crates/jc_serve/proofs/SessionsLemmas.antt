@@ -93,12 +93,6 @@ act_leaves O A B rest e reply (N.stuck why network lt is stuck) = kept refl refl
 act_leaves O A B rest e reply (N.made network new rows lt is step) = made e tt refl
 
 pub leaves : (O : Origin) (A B : Session) (q : Request) (reply : Reply) → (IsOwn q → ⊥) → Replies O A q B reply → Leaves A B q
-leaves O A B q reply own (N.steps le goes) = kept refl refl (λ act. absurd act)
-leaves O A B q reply own (N.steps_past lt) = kept refl refl (λ act. absurd act)
-leaves O A B q reply own (N.goes_back le) = kept refl refl (λ act. absurd act)
-leaves O A B q reply own (N.back_past lt) = kept refl refl (λ act. absurd act)
-leaves O A B q reply own (N.goes_to le goes) = kept refl refl (λ act. absurd act)
-leaves O A B q reply own (N.goes_past lt) = kept refl refl (λ act. absurd act)
 leaves O A B q reply own (N.acts {rest} event spelled acts) = act_leaves O A B rest event reply acts
 leaves O A B q reply own (N.acts_misspelled m) = kept refl refl (λ act. refl)
 leaves O A B q reply own (N.runs lt runs) = absurd (own tt)
@@ -110,16 +104,7 @@ leaves O A B q reply own (N.breaks_replica p is sets) = absurd (own tt)
 leaves O A B q reply own (N.no_replica none) = absurd (own tt)
 leaves O A B q reply own (N.clears j b is) = absurd (own tt)
 leaves O A B q reply own (N.no_break none) = absurd (own tt)
-leaves O A B q reply own (N.states network is) = kept refl refl (λ act. absurd act)
-leaves O A B q reply own (N.state_of network p C is named there) = kept refl refl (λ act. absurd act)
-leaves O A B q reply own (N.no_state none) = kept refl refl (λ act. absurd act)
-leaves O A B q reply own (N.traces is makes) = kept refl refl (λ act. absurd act)
-leaves O A B q reply own (N.at_start is) = kept refl refl (λ act. absurd act)
-leaves O A B q reply own (N.enables network events is enabled) = kept refl refl (λ act. absurd act)
-leaves O A B q reply own N.lists = kept refl refl (λ act. absurd act)
-leaves O A B q reply own N.tells = kept refl refl (λ act. absurd act)
-leaves O A B q reply own (N.compares network p q2 C D is one two here there compared) = kept refl refl (λ act. absurd act)
-leaves O A B q reply own (N.no_compared none) = kept refl refl (λ act. absurd act)
+leaves O A B q reply own _ = kept refl refl (λ act. absurd act)
 
 module _ (s : Scenario) (start : Network) (x : AnyServed) (v : IsServing s start x) (q : Request) (d : Seen) (trail : IsDebugger d) (answer : List ℕ) (g : GivesServed x.scenario.given.items x.here q d answer) (own : IsOwn q → ⊥) where
   debugger : IsDebuggerOf s start d

@@ -75,33 +75,11 @@ sets_named n A B b reply (N.set least) h = h
 sets_named n A B b reply (N.none_free none) h = h
 
 pub replies_named : (O : Origin) (A B : Session) (request : Request) (reply : Reply) → Replies O A request B reply → All (λ x. AreNamed x (length O.names)) A.schedule → All (λ x. AreNamed x (length O.names)) B.schedule
-replies_named O A B request reply (N.steps le goes) h = h
-replies_named O A B request reply (N.steps_past lt) h = h
-replies_named O A B request reply (N.goes_back le) h = h
-replies_named O A B request reply (N.back_past lt) h = h
-replies_named O A B request reply (N.goes_to le goes) h = h
-replies_named O A B request reply (N.goes_past lt) h = h
 replies_named O A B request reply (N.acts event spelled acts) h = acts_named O A B event reply spelled.resolved.known acts h
-replies_named O A B request reply (N.acts_misspelled m) h = h
-replies_named O A B request reply (N.runs lt runs) h = h
-replies_named O A B request reply (N.runs_past is) h = h
 replies_named O A B request reply (N.breaks_at {n} sets) h = sets_named (length O.names) A B _ reply sets h
 replies_named O A B request reply (N.breaks_rule rule has is sets) h = sets_named (length O.names) A B _ reply sets h
-replies_named O A B request reply (N.no_rule none) h = h
 replies_named O A B request reply (N.breaks_replica p is sets) h = sets_named (length O.names) A B _ reply sets h
-replies_named O A B request reply (N.no_replica none) h = h
-replies_named O A B request reply (N.clears j b is) h = h
-replies_named O A B request reply (N.no_break none) h = h
-replies_named O A B request reply (N.states network is) h = h
-replies_named O A B request reply (N.state_of network p C is named there) h = h
-replies_named O A B request reply (N.no_state none) h = h
-replies_named O A B request reply (N.traces is makes) h = h
-replies_named O A B request reply (N.at_start is) h = h
-replies_named O A B request reply (N.enables network events is enabled) h = h
-replies_named O A B request reply N.lists h = h
-replies_named O A B request reply N.tells h = h
-replies_named O A B request reply (N.compares network p q C D is one two here there compared) h = h
-replies_named O A B request reply (N.no_compared none) h = h
+replies_named O A B request reply _ h = h
 
 pub answer_named : (O : Origin) (A B : Session) (line : Line) (text : List ℕ) → LineAnswer O A line B text → All (λ x. AreNamed x (length O.names)) A.schedule → All (λ x. AreNamed x (length O.names)) B.schedule
 answer_named O A B line text (N.empty is) h = h
@@ -136,29 +114,10 @@ set_named n A B b reply (N.none_free none) = tt
 
 pub stuck_named : (O : Origin) (A B : Session) (request : Request) (reply : Reply) → Replies O A request B reply → All (λ x. AreNamed x (length O.names)) A.schedule → IsNamedIn (length O.names) reply
 stuck_named O A B request reply (N.steps {n} {p} {end} le goes) h = goes_named O A (A.position + n) p end goes h
-stuck_named O A B request reply (N.steps_past lt) h = tt
-stuck_named O A B request reply (N.goes_back le) h = tt
-stuck_named O A B request reply (N.back_past lt) h = tt
 stuck_named O A B request reply (N.goes_to {n} {p} {end} le goes) h = goes_named O A n p end goes h
-stuck_named O A B request reply (N.goes_past lt) h = tt
 stuck_named O A B request reply (N.acts event spelled acts) h = act_named O A B event reply spelled.resolved.known acts
-stuck_named O A B request reply (N.acts_misspelled m) h = tt
 stuck_named O A B request reply (N.runs {n} {end} lt runs) h = ran_named O A n end runs h
-stuck_named O A B request reply (N.runs_past is) h = tt
 stuck_named O A B request reply (N.breaks_at sets) h = set_named (length O.names) A B _ reply sets
 stuck_named O A B request reply (N.breaks_rule rule has is sets) h = set_named (length O.names) A B _ reply sets
-stuck_named O A B request reply (N.no_rule none) h = tt
 stuck_named O A B request reply (N.breaks_replica p is sets) h = set_named (length O.names) A B _ reply sets
-stuck_named O A B request reply (N.no_replica none) h = tt
-stuck_named O A B request reply (N.clears j b is) h = tt
-stuck_named O A B request reply (N.no_break none) h = tt
-stuck_named O A B request reply (N.states network is) h = tt
-stuck_named O A B request reply (N.state_of network p C is named there) h = tt
-stuck_named O A B request reply (N.no_state none) h = tt
-stuck_named O A B request reply (N.traces is makes) h = tt
-stuck_named O A B request reply (N.at_start is) h = tt
-stuck_named O A B request reply (N.enables network events is enabled) h = tt
-stuck_named O A B request reply N.lists h = tt
-stuck_named O A B request reply N.tells h = tt
-stuck_named O A B request reply (N.compares network p q C D is one two here there compared) h = tt
-stuck_named O A B request reply (N.no_compared none) h = tt
+stuck_named O A B request reply _ h = tt
