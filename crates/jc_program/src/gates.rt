@@ -2,7 +2,7 @@
 //! them one replica would have made all its events before the next one begins. `record` makes them. No contract speaks of
 //! when a gate lets its thread go on, and none of the order that comes about.
 
-ghost use Rattle.std.specs.Prelude.{◌≡◌, None, IfOk, vec_len};
+ghost use Rattle.std.specs.Prelude.{◌≡◌, All, None, IfOk, false, vec_len};
 
 use jc_runner::Gate;
 use std::alloc::{AllocError, Global};
@@ -16,17 +16,24 @@ const LOOKS_AT_START: u64 = 1_000_000;
 /// How often it looks whether another thread has gone on, before it does.
 const LOOKS: u64 = 8;
 
+/// What the threads of one run count together.
+#[derive(Default, Drop)]
+pub struct Counters {
+    /// How many threads have started.
+    started: AtomicU64,
+    /// How many times a thread was let go on.
+    takes: AtomicU64,
+}
+
 /// The gate of a replica's thread. Before the first event it waits until the threads of all replicas have started, and
 /// before each later one it lets another thread go first, if one comes soon. It never waits without end. A gate that is
 /// dropped before it was asked lets all others go on: its thread couldn't be made, so they would wait in vain.
 pub struct Meeting<'a> {
+    /// How many threads it waits for.
     threads: u64,
     /// Whether its thread has started.
     has_come: bool,
-    /// How many threads have started.
-    started: &'a AtomicU64,
-    /// How many times a thread was let go on.
-    takes: &'a AtomicU64,
+    counters: &'a Counters,
 }
 
 /// Looks until there are as many, at most `LOOKS_AT_START` times.
@@ -55,11 +62,10 @@ impl Drop for Meeting<'_> {
         let Meeting {
             threads,
             has_come,
-            started,
-            takes: _,
+            counters,
         } = self;
         if !has_come {
-            started.fetch_add(threads, Ordering::SeqCst);
+            counters.started.fetch_add(threads, Ordering::SeqCst);
         }
     }
 }
@@ -70,31 +76,30 @@ impl<'a> Gate for Meeting<'a> {
     fn before<R: Wait>(&mut self, _rt: &R, _replica: u16, step: u64) {
         if step == 0 {
             self.has_come = true;
-            self.started.fetch_add(1, Ordering::SeqCst);
-            wait_for(self.started, self.threads);
+            self.counters.started.fetch_add(1, Ordering::SeqCst);
+            wait_for(&self.counters.started, self.threads);
         } else {
-            wait_for_another(self.takes);
+            wait_for_another(&self.counters.takes);
         }
-        self.takes.fetch_add(1, Ordering::SeqCst);
+        self.counters.takes.fetch_add(1, Ordering::SeqCst);
     }
 }
 
-/// A gate for each of so many replicas.
+/// A gate for each of so many replicas, which waits for that many threads. None of them has come.
 pub fn gates_of<'a>(
     alloc: Global,
     count: usize,
-    started: &'a AtomicU64,
-    takes: &'a AtomicU64,
+    counters: &'a Counters,
 ) -> Result<Vec<Meeting<'a>>, AllocError>
-    ensures { IfOk result (λ gates. vec_len gates ≡ count) }
+    ensures { IfOk result (λ gates. (vec_len gates ≡ count)
+        × All (λ gate. (gate.threads ≡ count) × (gate.has_come ≡ false)) gates.items) }
 {
     let mut gates = Vec::new(alloc);
     for _ in 0..count {
         gates.push(Meeting {
             threads: count as u64,
             has_come: false,
-            started,
-            takes,
+            counters,
         })?;
     }
     Ok(gates)

@@ -9,7 +9,7 @@ use Rattle.jc_program.proofs.recording.run_meeting.Goals as goal
 pub returns-clause-fault : goal.returns-clause-fault
 returns-clause-fault g c =
     let scripts = c.args.scenario.scripts in
-    let many : vec_len c.in-Ok.gates ≡ length (scripts_view scripts.items) = omega (arith, c.in-Ok.ensures, as_many scripts.items, scripts.ok.0) in
+    let many : vec_len c.in-Ok.gates ≡ length (scripts_view scripts.items) = omega (arith, c.in-Ok.ensures.0, as_many scripts.items, scripts.ok.0) in
     subst (λ (n : ℕ). IfErr c.run_threads.result (λ (f : RunFault). IsReportedFault f (scenario_view c.args.scenario) n c.args.limit)) many c.run_threads.ensures.fault
 
 pub returns-in-Err-clause-fault : goal.returns-in-Err-clause-fault
