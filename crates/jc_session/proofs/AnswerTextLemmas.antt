@@ -1,23 +1,19 @@
 -- Of `AnswerOf`: the texts of replies in memory, and the answers of lines.
-use Rattle.std.proofs.Common.{◌≡◌, ℕ, ◌-◌, List, [], ◌++◌, length, slice_get, get_or, Option, None, Some, MatchOption, codes, decimal, refl, ap, sym, subst, ◌∙◌, arith}
+use Rattle.std.proofs.Common.{◌≡◌, ℕ, ◌-◌, List, [], length, slice_get, get_or, Option, None, Some, MatchOption, codes, refl, ap, sym, subst, ◌∙◌, arith}
 use Rattle.std.specs.List.{All}
 use Rattle.std.proofs.lemmas.Option.{get_or_from_slice_get}
 use Rattle.jc_rules.specs.declared.operation.Event.{Event}
 use Rattle.jc_rules.specs.declared.refusal.Refusal.TheVariants as F
 use Rattle.jc_rules.specs.declared.rule.Rule.{Rule}
-use Rattle.jc_rules.specs.Refused.{Cause}
 use Rattle.jc_printer.specs.Canon.{AreNamed}
-use Rattle.jc_network.specs.declared.fault.Stuck.{Stuck}
 use Rattle.jc_network.specs.Enabled.{AreEnabled, candidates}
 use Rattle.jc_network.specs.NetworkHistory.{NetworkHistory}
-use Rattle.jc_network.specs.Steps.{stuck_for}
 use Rattle.jc_debug.specs.declared.fault.RunEnd.{RunEnd}
 use Rattle.jc_debug.specs.declared.fault.RunEnd.TheVariants as E
-use Rattle.jc_debug.specs.DebuggerState.{MakesEvent, RunOutcome}
+use Rattle.jc_debug.specs.DebuggerState.{MakesEvent}
 use Rattle.jc_debug.specs.Invariant.{Seen, start_of, session_of}
-use Rattle.jc_debug.specs.Moves.{IsTraceOf, IsEnd}
+use Rattle.jc_debug.specs.Moves.{IsTraceOf}
 use Rattle.jc_debug.proofs.BreaksLemmas.{one_makes}
-use Rattle.jc_dump.specs.Lines.{stuck_text}
 use Rattle.jc_dump.specs.Texts.{block_text}
 use Rattle.jc_session.specs.declared.replies.Reply.{Reply as AnyReply}
 use Rattle.jc_session.specs.declared.replies.Reply.TheVariants as R
@@ -29,30 +25,17 @@ use Rattle.jc_session.specs.Reply as Y
 use Rattle.jc_session.specs.Reply.{Reply}
 use Rattle.jc_session.specs.Requests as Q
 use Rattle.jc_session.specs.Requests.{Request, nothing, asks, bad, meaning}
-use Rattle.jc_session.specs.Texts.{at_line, refusal_line, ran_text, event_lines, numbered_lines, or_none_text, reply_text}
+use Rattle.jc_session.specs.Texts.{refusal_line, event_lines, or_none_text, reply_text}
 use Rattle.jc_session.proofs.AnswerOfLemmas.{of_all}
 use Rattle.jc_session.proofs.ChosenEventsLemmas.{one_enabled}
-use Rattle.jc_session.proofs.EventNamesLemmas.{replies_named, IsNamedIn, stuck_named}
-
--- ---- runs
-
--- the text of each end of a run
-pub ran_break : (names : List (List ℕ)) (n k : ℕ) (text : List ℕ) → text ≡ at_line n ++ (codes "break " ++ decimal k ++ codes "\n") → (outcome : RunOutcome) → IsEnd (E.Break k) outcome → text ≡ ran_text names n outcome
-ran_break names n k text h outcome (j, number, is) = h ∙ ap (λ (i : ℕ). at_line n ++ (codes "break " ++ decimal i ++ codes "\n")) number ∙ ap (ran_text names n) (sym is)
-
-pub ran_stuck : (names : List (List ℕ)) (n : ℕ) (s : Stuck) (text : List ℕ) → ((why : Cause) (event : Event) → s ≡ stuck_for why event → text ≡ at_line n ++ stuck_text names why event) → (outcome : RunOutcome) → IsEnd (E.Stuck s) outcome → text ≡ ran_text names n outcome
-ran_stuck names n s text h outcome (why, event, told, is) = h why event told ∙ ap (ran_text names n) (sym is)
-
-pub ran_end : (names : List (List ℕ)) (n : ℕ) (text : List ℕ) → text ≡ at_line n ++ codes "end\n" → (outcome : RunOutcome) → IsEnd E.End outcome → text ≡ ran_text names n outcome
-ran_end names n text h outcome is = h ∙ ap (ran_text names n) (sym is)
+use Rattle.jc_session.proofs.EventNamesLemmas.{replies_named, IsNamedIn}
 
 -- ---- traces
 
 -- the event that led to the position
 pub event_at : (d : Seen) (t : List (Rule × ℕ)) (h : IsTraceOf d t) (es : List Event) (n : ℕ) (x : Event) → es ≡ d.schedule → n ≡ length d.traces → get_or es (n - 1) x ≡ h.event
 event_at d t h es n x same at =
-    let position = h.position in
-    let there : n - 1 ≡ h.before = omega (arith, position, at) in
+    let there : n - 1 ≡ h.before = omega (arith, h.position, at) in
     ap (λ xs. get_or xs (n - 1) x) same ∙ get_or_from_slice_get d.schedule (n - 1) h.event x (subst (λ (m : ℕ). slice_get d.schedule m ≡ Some h.event) (sym there) h.makes.is)
 
 pub trace_named : (d : Seen) (t : List (Rule × ℕ)) (h : IsTraceOf d t) (net : NetworkHistory) (names : List (List ℕ)) (event : Event) → AllNamed d → net ≡ d.net → names ≡ net.names → event ≡ h.event → AreNamed event (length names)
@@ -64,9 +47,7 @@ trace_named d t h net names event all same is event_is =
 pub trace_text : (d : Seen) (t : List (Rule × ℕ)) (net : NetworkHistory) (names : List (List ℕ)) (n : ℕ) (event : Event) (text : List ℕ) → net ≡ d.net → names ≡ net.names → n ≡ length d.traces → (h : IsTraceOf d t) → event ≡ h.event → text ≡ block_text names n event t → (r : Reply) → IsTraceReply d r → text ≡ reply_text d.net.names r
 trace_text d t net names n event text same is at h event_is due r (traced {rows} k) =
     let known : names ≡ d.net.names = is ∙ ap (λ (c : NetworkHistory). c.names) same in
-    let here = h.position in
-    let there = k.position in
-    let number : h.before ≡ k.before = omega (arith, here, there) in
+    let number : h.before ≡ k.before = omega (arith, h.position, k.position) in
     let one = one_makes (start_of d) d.schedule k.before h.event k.event t rows (subst (λ (m : ℕ). MakesEvent (start_of d) d.schedule m h.event t) number h.makes) k.makes in
     let same_event : event ≡ k.event = event_is ∙ one.0 in
     due ∙ (λ i. block_text (known i) (at i) (same_event i) (one.1 i))
@@ -83,40 +64,24 @@ enabled_text net names listed lines text is enabled all h events others =
     let same = one_enabled net.history.now listed events enabled others in
     h ∙ ap or_none_text (all ∙ (λ i. event_lines (is i) (same i)))
 
-pub schedule_text : (d : Seen) (net : NetworkHistory) (names : List (List ℕ)) (events : List Event) (lines text : List ℕ) → net ≡ d.net → names ≡ net.names → events ≡ d.schedule → lines ≡ numbered_lines names 1 events → text ≡ or_none_text lines → text ≡ or_none_text (numbered_lines d.net.names 1 d.schedule)
-schedule_text d net names events lines text same is listed all h =
-    let known : names ≡ d.net.names = is ∙ ap (λ (c : NetworkHistory). c.names) same in
-    h ∙ ap or_none_text (all ∙ (λ i. numbered_lines (known i) 1 (listed i)))
-
--- ---- replies
-
--- what stands for a reply has its text
-pub told : (names : List (List ℕ)) (due reply : Reply) (text : List ℕ) → text ≡ reply_text names due → reply ≡ due → text ≡ reply_text names reply
-told names due reply text h is = h ∙ ap (reply_text names) (sym is)
-
-pub stuck_told : (d : Seen) (net : NetworkHistory) (n : ℕ) (s : Stuck) (text : List ℕ) → net ≡ d.net → ((why : Cause) (event : Event) → s ≡ stuck_for why event → text ≡ at_line n ++ stuck_text net.names why event) → (r : Reply) → IsReply d (R.Stuck n s) r → text ≡ reply_text d.net.names r
-stuck_told d net n s text same h r (why, event, is, due) =
-    told d.net.names (Y.went n (Some (event, why))) r text (h why event is ∙ ap (λ (c : NetworkHistory). at_line n ++ stuck_text c.names why event) same) due
-
 -- ---- answers
 
 -- a request leaves each event of the schedule named
 pub all_named_after : (d e : Seen) (q : Request) (answer : AnyReply) → AllNamed d → GivesReply d q e answer → AllNamed e
 all_named_after d e q answer all g =
-    subst (λ (O : Origin). All (λ x. AreNamed x (length O.names)) e.schedule) (sym g.origin) (replies_named (origin_in d) (session_of d) (session_of e) q g.reply g.replies all)
+    subst (λ (O : Origin). All (λ x. AreNamed x (length O.names)) e.schedule) (sym g.origin) (replies_named (origin_in d) (session_of d) (session_of e) q g.reply g.replies all).0
 
 -- an event that is stuck, too
 pub named_reply : (d e : Seen) (q : Request) (answer : AnyReply) → AllNamed d → GivesReply d q e answer → IsNamedReply e.net.names answer
 named_reply d e q answer all g = by_answer answer g.is_reply
   where
     names : IsNamedIn (length e.net.names) g.reply
-    names = subst (λ (O : Origin). IsNamedIn (length O.names) g.reply) (sym g.origin) (stuck_named (origin_in d) (session_of d) (session_of e) q g.reply g.replies all)
+    names = subst (λ (O : Origin). IsNamedIn (length O.names) g.reply) (sym g.origin) (replies_named (origin_in d) (session_of d) (session_of e) q g.reply g.replies all).1
 
     by_end : (n : ℕ) (end : RunEnd) → IsReply e (R.Ran n end) g.reply → IsNamedEnd e.net.names end
-    by_end n (E.Break k) is = tt
-    by_end n E.End is = tt
     by_end n (E.Stuck s) (outcome, (why, event, told, ran), is) =
         record { why = why; event = event; is = told; named = subst (λ (r : Reply). IsNamedIn (length e.net.names) r) (is ∙ ap (Y.ran n) ran) names }
+    by_end n _ is = tt
 
     by_answer : (a : AnyReply) → IsReply e a g.reply → IsNamedReply e.net.names a
     by_answer (R.Stuck n s) (why, event, told, is) =

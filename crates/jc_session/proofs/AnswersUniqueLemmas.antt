@@ -1,7 +1,6 @@
 -- Of `Answers` and `Lines`: a name, the rest of an `act` line, a fault and bytes are read in one way, for `LawsLemmas`.
-use Rattle.std.proofs.Common.{◌≡◌, ℕ, ◌<◌, nat_le, ◌&&◌, List, [], ◌∷◌, ◌++◌, length, Some, map, take, if◌then◌else◌, inl, inr, refl, ap, sym, subst, ◌∙◌, arith, append_assoc, append-nil}
+use Rattle.std.proofs.Common.{◌≡◌, ℕ, ◌<◌, nat_le, ◌&&◌, List, [], ◌∷◌, ◌++◌, length, Some, map, take, if◌then◌else◌, refl, ap, sym, subst, ◌∙◌, arith, append_assoc, append-nil}
 use Rattle.std.specs.List.{AllByRecursion}
-use Rattle.std.proofs.lemmas.Bool.{cases_lt}
 use Rattle.std.proofs.lemmas.Option.{same_Some, slice_get_within, get_or_from_slice_get}
 use Rattle.std.proofs.lemmas.List.{length-map}
 use Rattle.std.proofs.lemmas.List.Elements.{All-nil, All-cons}
@@ -41,14 +40,9 @@ apart names name p q rising a b less =
 -- a name is that of one replica
 pub one_named : (names : List (List ℕ)) (name : List ℕ) (p q : ℕ) → IsRising name_cmp names → IsNamed names name p → IsNamed names name q → p ≡ q
 one_named names name p q rising a b =
-    elim (cases_lt p q) [
-      | inl less ↦ absurd (apart names name p q rising a b less)
-      | inr most ↦
-          elim (cases_lt q p) [
-            | inl more ↦ absurd (apart names name q p rising b a more)
-            | inr least ↦ omega arith
-          ]
-    ]
+    let least : p < q → ⊥ = apart names name p q rising a b in
+    let most : q < p → ⊥ = apart names name q p rising b a in
+    omega (arith, least, most)
 
 -- ---- events
 

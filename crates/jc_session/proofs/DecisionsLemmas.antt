@@ -1,9 +1,10 @@
 -- Of `Answers`: decisions about names, rules and operations, and the least number of a kind, for `SomeReplyLemmas`.
-use Rattle.std.proofs.Common.{◌≡◌, ◌≢◌, ◌⊎◌, inl, inr, ℕ, zero, suc, ◌<◌, List, [], ◌∷◌, length, get_or, unwrap_or, slice_get, Option, Some, None, Bool, true, false, Contains, refl, ap, sym, subst, ◌∙◌, arith}
+use Rattle.std.proofs.Common.{◌≡◌, ◌≢◌, ◌⊎◌, inl, inr, ℕ, zero, suc, ◌<◌, List, [], ◌∷◌, length, get_or, unwrap_or, slice_get, Option, Some, None, Bool, true, false, Contains, below_more, refl, ap, sym, subst, ◌∙◌, arith}
+use Rattle.std.specs.Bool.{Decides}
 use Rattle.std.specs.Str.{bytes_eq}
-use Rattle.std.proofs.lemmas.Bool.{cases_Bool, cases_lt}
+use Rattle.std.specs.Cmp.Lexicographic.{pointwise}
 use Rattle.std.proofs.lemmas.Option.{same_Some, slice_get_within, slice_get-get_or, get_or_from_slice_get}
-use Rattle.std.proofs.lemmas.Slice.Eq.{bytes_eq-Decides}
+use Rattle.std.proofs.lemmas.Slice.Eq.{bytes_eq-Decides, slice_eq-Decides}
 use Rattle.jc_rules.specs.declared.id.Id.{Id}
 use Rattle.jc_rules.specs.declared.operation.Event.{Event}
 use Rattle.jc_rules.specs.declared.operation.Event.TheVariants as E
@@ -28,14 +29,12 @@ use Rattle.jc_session.specs.Answers.{IsNamed, IsStrange, Knows}
 abbrev pub Decided : Type 0 → Type 0
 Decided P = P ⊎ (P → ⊥)
 
--- ---- the least number
+-- what a test tells
+decided : {P : Type 0} (b : Bool) → Decides b P → Decided P
+decided true tells = inl (tells.0 refl)
+decided false tells = inr (λ h. (let no : false ≡ true = tells.1 h in cc))
 
-not_last : (P : ℕ → Type 0) (n j : ℕ) → ((i : ℕ) → i < n → P i → ⊥) → (P n → ⊥) → j < suc n → P j → ⊥
-not_last P n j before here lt h =
-    elim (cases_lt j n) [
-      | inl less ↦ before j less h
-      | inr most ↦ let same : j ≡ n = omega (arith, lt, most) in here (subst P same h)
-    ]
+-- ---- the least number
 
 -- below a number there is a least one of which it holds, or there is none
 pub least : (P : ℕ → Type 0) → ((j : ℕ) → Decided (P j)) → (n : ℕ) → ((j : ℕ) × IsLeast P j) ⊎ ((j : ℕ) → j < n → P j → ⊥)
@@ -46,7 +45,7 @@ least P decided (suc n) =
       | inr before ↦
           elim (decided n) [
             | inl here ↦ inl (n, (here, before))
-            | inr other ↦ inr (λ j lt h. not_last P n j before other lt h)
+            | inr other ↦ inr (λ j lt. below_more (λ k. P k → ⊥) n before other j (omega (arith, lt)))
           ]
     ]
 
@@ -64,12 +63,8 @@ stands {X} same xs y j = by_place (slice_get xs j) refl
 
 -- ---- names
 
-pub same_bytes : (m n : List ℕ) → Decided (m ≡ n)
-same_bytes m n =
-    elim (cases_Bool (bytes_eq m n)) [
-      | inl equal ↦ inl ((bytes_eq-Decides m n).0 equal)
-      | inr other ↦ inr (λ same. (let equal = (bytes_eq-Decides m n).1 same in cc (equal, other)))
-    ]
+same_bytes : (m n : List ℕ) → Decided (m ≡ n)
+same_bytes m n = decided (bytes_eq m n) (bytes_eq-Decides m n)
 
 -- a replica has the name, or none has it
 pub named_or_strange : (names : List (List ℕ)) (name : List ℕ) → ((p : ℕ) × IsNamed names name p) ⊎ IsStrange names name
@@ -88,18 +83,10 @@ same_rule r s =
       | inr other ↦ inr (λ same. other (ap rule_name same))
     ]
 
-HasName : List ℕ → ℕ → Type 0
-HasName name k = rule_name (get_or every_rule.0 k R.Exec) ≡ name
-
-has_name : (name : List ℕ) (k : ℕ) → Decided (HasName name k)
-unfolding HasName
-has_name name k = same_bytes (rule_name (get_or every_rule.0 k R.Exec)) name
-
 -- a rule has the name, or none has it
 rule_or_none : (name : List ℕ) → ((rule : Rule) × (rule_name rule ≡ name)) ⊎ ((rule : Rule) → rule_name rule ≢ name)
-unfolding HasName
 rule_or_none name =
-    elim (least (HasName name) (has_name name) 51) [
+    elim (least (λ k. rule_name (get_or every_rule.0 k R.Exec) ≡ name) (λ k. same_bytes (rule_name (get_or every_rule.0 k R.Exec)) name) 51) [
       | inl (k, is) ↦ inl (get_or every_rule.0 k R.Exec, is.0)
       | inr none ↦ inr (λ rule is. none (rule_place rule) (rule_within rule) (ap rule_name (every_rule.1 rule R.Exec) ∙ is))
     ]
@@ -146,15 +133,8 @@ has_rule ((r, depth) ∷ rows) rule =
 -- ---- operations
 
 pub same_ops : (s t : List Id) → Decided (s ≡ t)
-same_ops [] [] = inl refl
-same_ops [] (j ∷ t) = inr (λ e. cc)
-same_ops (i ∷ s) [] = inr (λ e. cc)
-same_ops (i ∷ s) (j ∷ t) = by_first (same_id i j) refl (same_ops s t)
-  where
-    by_first : (b : Bool) → same_id i j ≡ b → Decided (s ≡ t) → Decided ((i ∷ s) ≡ (j ∷ t))
-    by_first true e (inl rest) = let first = same_id-true i j e in inl (λ k. first k ∷ rest k)
-    by_first true e (inr other) = inr (λ same. (let rest : s ≡ t = cc in other rest))
-    by_first false e rest = inr (λ same. (let first : i ≡ j = cc in let no : true ≡ false = sym (same_id-self i) ∙ ap (same_id i) first ∙ e in cc))
+same_ops s t =
+    decided (pointwise same_id s t) (slice_eq-Decides (λ i j. (same_id-true i j, λ same. ap (same_id i) (sym same) ∙ same_id-self i)) s t (pointwise same_id s t) refl)
 
 -- ---- names in an event
 
@@ -167,55 +147,38 @@ numbered names name p is = (p, slice_get_within names p name is, ap (λ (o : Opt
 is_known : (names : List (List ℕ)) (name : List ℕ) (p : ℕ) → IsNamed names name p → Contains names name
 is_known names name p is = (p, slice_get_within names p name is, get_or_from_slice_get names p name name is)
 
--- what one name of an event is, or that it is the first stranger
-abbrev pub Resolved : List (List ℕ) → NamedEvent → Type 0
-Resolved names x = ((event : Event) × IsResolved names x event) ⊎ ((place : ℕ) × IsFirstStranger names (names_in_event x) place)
+-- each of the names is a replica's
+abbrev AllNumbered : List (List ℕ) → List Named → Type 0
+AllNumbered names [] = Unit {0}
+AllNumbered names (q ∷ qs) = AreNumbered names q.name × AllNumbered names qs
 
-by_one : (names : List (List ℕ)) (x : NamedEvent) (q : Named) → names_in_event x ≡ q ∷ [] → (AreNumbered names q.name → (event : Event) × IsResolved names x event) → Resolved names x
-by_one names x q are known =
+-- or there is a first one that no replica has
+numbered_or_strange : (names : List (List ℕ)) (qs : List Named) → AllNumbered names qs ⊎ ((place : ℕ) × IsFirstStranger names qs place)
+numbered_or_strange names [] = inl tt
+numbered_or_strange names (q ∷ qs) =
     elim (named_or_strange names q.name) [
-      | inl (p, is) ↦ inl (known (numbered names q.name p is))
-      | inr new ↦ inr (q.place, subst (λ (l : List Named). IsFirstStranger names l q.place) (sym are) (inl (new, refl)))
-    ]
-
-by_two : (names : List (List ℕ)) (x : NamedEvent) (q s : Named) → names_in_event x ≡ q ∷ s ∷ [] → (AreNumbered names q.name → AreNumbered names s.name → (event : Event) × IsResolved names x event) → Resolved names x
-by_two names x q s are known =
-    elim (named_or_strange names q.name) [
-      | inr new ↦ inr (q.place, subst (λ (l : List Named). IsFirstStranger names l q.place) (sym are) (inl (new, refl)))
+      | inr new ↦ inr (q.place, inl (new, refl))
       | inl (p, is) ↦
-          elim (named_or_strange names s.name) [
-            | inl (r, other) ↦ inl (known (numbered names q.name p is) (numbered names s.name r other))
-            | inr new ↦ inr (s.place, subst (λ (l : List Named). IsFirstStranger names l s.place) (sym are) (inr (is_known names q.name p is, inl (new, refl))))
+          elim (numbered_or_strange names qs) [
+            | inl all ↦ inl (numbered names q.name p is, all)
+            | inr (place, first) ↦ inr (place, inr (is_known names q.name p is, first))
           ]
     ]
 
-by_three : (names : List (List ℕ)) (x : NamedEvent) (q s t : Named) → names_in_event x ≡ q ∷ s ∷ t ∷ [] → (AreNumbered names q.name → AreNumbered names s.name → AreNumbered names t.name → (event : Event) × IsResolved names x event) → Resolved names x
-by_three names x q s t are known =
-    elim (named_or_strange names q.name) [
-      | inr new ↦ inr (q.place, subst (λ (l : List Named). IsFirstStranger names l q.place) (sym are) (inl (new, refl)))
-      | inl (p, is) ↦
-          elim (named_or_strange names s.name) [
-            | inr new ↦ inr (s.place, subst (λ (l : List Named). IsFirstStranger names l s.place) (sym are) (inr (is_known names q.name p is, inl (new, refl))))
-            | inl (r, other) ↦
-                elim (named_or_strange names t.name) [
-                  | inl (i, third) ↦ inl (known (numbered names q.name p is) (numbered names s.name r other) (numbered names t.name i third))
-                  | inr new ↦ inr (t.place, subst (λ (l : List Named). IsFirstStranger names l t.place) (sym are) (inr (is_known names q.name p is, inr (is_known names s.name r other, inl (new, refl)))))
-                ]
-          ]
-    ]
+resolved : (names : List (List ℕ)) (x : NamedEvent) → AllNumbered names (names_in_event x) → (event : Event) × IsResolved names x event
+resolved names (N.Exec q) ((p, inside, is), none) = (E.Exec p, record { known = inside; called = ap executes is })
+resolved names (N.Send q) ((p, inside, is), none) = (E.Send p, record { known = inside; called = ap sends is })
+resolved names (N.Done q) ((p, inside, is), none) = (E.Done p, record { known = inside; called = ap ends is })
+resolved names (N.Recv q s) ((p, inside, is), ((r, within, other), none)) = (E.Recv p r, record { known = (inside, within); called = λ i. receives (is i) (other i) })
+resolved names (N.Take q s counter t) ((p, inside, is), ((r, within, other), ((o, under, third), none))) =
+    (E.Take p r (record { counter = counter; replica = o }), record { known = (inside, within, under); called = λ i. takes (is i) (other i) counter (third i) })
+resolved names (N.Apply q counter s) ((p, inside, is), ((r, within, other), none)) =
+    (E.Apply p (record { counter = counter; replica = r }), record { known = (inside, within); called = λ i. applies (is i) counter (other i) })
 
 -- an event by names is one by numbers, or it has a first name that no replica has
-pub resolved_or_strange : (names : List (List ℕ)) (x : NamedEvent) → Resolved names x
-resolved_or_strange names (N.Exec q) = by_one names (N.Exec q) q refl (λ (p, inside, is). (E.Exec p, record { known = inside; called = ap executes is }))
-resolved_or_strange names (N.Send q) = by_one names (N.Send q) q refl (λ (p, inside, is). (E.Send p, record { known = inside; called = ap sends is }))
-resolved_or_strange names (N.Done q) = by_one names (N.Done q) q refl (λ (p, inside, is). (E.Done p, record { known = inside; called = ap ends is }))
-resolved_or_strange names (N.Recv q s) =
-    by_two names (N.Recv q s) q s refl
-    (λ (p, inside, is) (r, within, other). (E.Recv p r, record { known = (inside, within); called = λ i. receives (is i) (other i) }))
-resolved_or_strange names (N.Take q s counter t) =
-    by_three names (N.Take q s counter t) q s t refl
-    (λ (p, inside, is) (r, within, other) (o, under, third).
-    (E.Take p r (record { counter = counter; replica = o }), record { known = (inside, within, under); called = λ i. takes (is i) (other i) counter (third i) }))
-resolved_or_strange names (N.Apply q counter s) =
-    by_two names (N.Apply q counter s) q s refl
-    (λ (p, inside, is) (r, within, other). (E.Apply p (record { counter = counter; replica = r }), record { known = (inside, within); called = λ i. applies (is i) counter (other i) }))
+pub resolved_or_strange : (names : List (List ℕ)) (x : NamedEvent) → ((event : Event) × IsResolved names x event) ⊎ ((place : ℕ) × IsFirstStranger names (names_in_event x) place)
+resolved_or_strange names x =
+    elim (numbered_or_strange names (names_in_event x)) [
+      | inl all ↦ inl (resolved names x all)
+      | inr stranger ↦ inr stranger
+    ]

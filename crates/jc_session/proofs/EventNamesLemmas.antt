@@ -14,7 +14,7 @@ use Rattle.jc_network.specs.Invariant.{IsFromStart}
 use Rattle.jc_network.proofs.EnabledLemmas.{IsEventOf, of_exec, of_send, of_recv, of_take, of_apply, of_done, in_from}
 use Rattle.jc_network.proofs.MembersLemmas.{first_in, later_in}
 use Rattle.jc_network.proofs.RunInvariantStartLemmas.{start_well, after_well}
-use Rattle.jc_debug.specs.DebuggerState.{Session, StuckEvent, GoesTo, arrives, stops, RunOutcome, breaks, sticks, ends, Runs}
+use Rattle.jc_debug.specs.DebuggerState.{Session, StuckEvent, GoesTo, arrives, stops, RunOutcome, sticks, Runs}
 use Rattle.jc_session.specs.Lines.{Line}
 use Rattle.jc_session.specs.Requests.{Request}
 use Rattle.jc_session.specs.Reply as Y
@@ -57,36 +57,9 @@ enabled_named M events n same r h =
     subst (λ (m : ℕ). All (λ e. AreNamed e m) events) (sym same)
     (chosen_named (λ e. AreNamed e (length M.states)) h (λ e k.
     let x = in_from M 0 M.states e k in
-    let place = x.1.is in
-    of_kind M x.0 x.1.number e x.1.at well.sets x.1.there (omega (arith, place)) x.1.event))
+    of_kind M x.0 x.1.number e x.1.at well.sets x.1.there (omega (arith, x.1.is)) x.1.event))
 
--- ---- events of a schedule
-
--- a request leaves each event of the schedule named
-acts_named : (O : Origin) (A B : Session) (e : Event) (reply : Reply) → AreNamed e (length O.names) → ActsOn O A e B reply → All (λ x. AreNamed x (length O.names)) A.schedule → All (λ x. AreNamed x (length O.names)) B.schedule
-acts_named O A B e reply named (N.full is) h = h
-acts_named O A B e reply named (N.stuck why network lt is stuck) h = h
-acts_named O A B e reply named (N.made network new rows lt is step) h =
-    let P : Event → Type 0 = λ x. AreNamed x (length O.names) in
-    All-append P (take A.position A.schedule) (e ∷ []) (All-take P A.position A.schedule h) (All-cons P e [] named (All-nil P))
-
-sets_named : (n : ℕ) (A B : Session) (b : _) (reply : Reply) → Sets A b B reply → All (λ x. AreNamed x n) A.schedule → All (λ x. AreNamed x n) B.schedule
-sets_named n A B b reply (N.set least) h = h
-sets_named n A B b reply (N.none_free none) h = h
-
-pub replies_named : (O : Origin) (A B : Session) (request : Request) (reply : Reply) → Replies O A request B reply → All (λ x. AreNamed x (length O.names)) A.schedule → All (λ x. AreNamed x (length O.names)) B.schedule
-replies_named O A B request reply (N.acts event spelled acts) h = acts_named O A B event reply spelled.resolved.known acts h
-replies_named O A B request reply (N.breaks_at {n} sets) h = sets_named (length O.names) A B _ reply sets h
-replies_named O A B request reply (N.breaks_rule rule has is sets) h = sets_named (length O.names) A B _ reply sets h
-replies_named O A B request reply (N.breaks_replica p is sets) h = sets_named (length O.names) A B _ reply sets h
-replies_named O A B request reply _ h = h
-
-pub answer_named : (O : Origin) (A B : Session) (line : Line) (text : List ℕ) → LineAnswer O A line B text → All (λ x. AreNamed x (length O.names)) A.schedule → All (λ x. AreNamed x (length O.names)) B.schedule
-answer_named O A B line text (N.empty is) h = h
-answer_named O A B line text (N.refused is) h = h
-answer_named O A B line text (N.replies {reply} request is replies) h = replies_named O A B request reply replies h
-
--- ---- events that are stuck
+-- ---- events of a schedule, and events that are stuck
 
 -- the event at which a move or a run stopped names replicas
 abbrev pub IsNamedIn : ℕ → Reply → Type 0
@@ -94,30 +67,40 @@ IsNamedIn n (Y.went p (Some (event, why))) = AreNamed event n
 IsNamedIn n (Y.ran p (sticks event why)) = AreNamed event n
 IsNamedIn n _ = Unit {0}
 
+-- and each event of the schedule does
+abbrev pub AllNamedIn : ℕ → Session → Reply → Type 0
+AllNamedIn n B reply = All (λ x. AreNamed x n) B.schedule × IsNamedIn n reply
+
 goes_named : (O : Origin) (A : Session) (to p : ℕ) (end : Option StuckEvent) → GoesTo O.start A.schedule A.position to p end → All (λ x. AreNamed x (length O.names)) A.schedule → IsNamedIn (length O.names) (Y.went p end)
 goes_named O A to p end (arrives is) h = tt
 goes_named O A to p end (stops {event} le lt stuck) h = of_all (λ x. AreNamed x (length O.names)) A.schedule p event h stuck.is
 
 ran_named : (O : Origin) (A : Session) (p : ℕ) (end : RunOutcome) → Runs O.start A p end → All (λ x. AreNamed x (length O.names)) A.schedule → IsNamedIn (length O.names) (Y.ran p end)
-ran_named O A p (breaks j) r h = tt
 ran_named O A p (sticks event why) r h = let at = r.at in of_all (λ x. AreNamed x (length O.names)) A.schedule p event h at.1.is
-ran_named O A p ends r h = tt
+ran_named O A p _ r h = tt
 
-act_named : (O : Origin) (A B : Session) (e : Event) (reply : Reply) → AreNamed e (length O.names) → ActsOn O A e B reply → IsNamedIn (length O.names) reply
-act_named O A B e reply named (N.full is) = tt
-act_named O A B e reply named (N.stuck why network lt is stuck) = named
-act_named O A B e reply named (N.made network new rows lt is step) = tt
+acts_named : (O : Origin) (A B : Session) (e : Event) (reply : Reply) → AreNamed e (length O.names) → ActsOn O A e B reply → All (λ x. AreNamed x (length O.names)) A.schedule → AllNamedIn (length O.names) B reply
+acts_named O A B e reply named (N.full is) h = (h, tt)
+acts_named O A B e reply named (N.stuck why network lt is stuck) h = (h, named)
+acts_named O A B e reply named (N.made network new rows lt is step) h =
+    let P : Event → Type 0 = λ x. AreNamed x (length O.names) in
+    (All-append P (take A.position A.schedule) (e ∷ []) (All-take P A.position A.schedule h) (All-cons P e [] named (All-nil P)), tt)
 
-set_named : (n : ℕ) (A B : Session) (b : _) (reply : Reply) → Sets A b B reply → IsNamedIn n reply
-set_named n A B b reply (N.set least) = tt
-set_named n A B b reply (N.none_free none) = tt
+sets_named : (n : ℕ) (A B : Session) (b : _) (reply : Reply) → Sets A b B reply → All (λ x. AreNamed x n) A.schedule → AllNamedIn n B reply
+sets_named n A B b reply (N.set least) h = (h, tt)
+sets_named n A B b reply (N.none_free none) h = (h, tt)
 
-pub stuck_named : (O : Origin) (A B : Session) (request : Request) (reply : Reply) → Replies O A request B reply → All (λ x. AreNamed x (length O.names)) A.schedule → IsNamedIn (length O.names) reply
-stuck_named O A B request reply (N.steps {n} {p} {end} le goes) h = goes_named O A (A.position + n) p end goes h
-stuck_named O A B request reply (N.goes_to {n} {p} {end} le goes) h = goes_named O A n p end goes h
-stuck_named O A B request reply (N.acts event spelled acts) h = act_named O A B event reply spelled.resolved.known acts
-stuck_named O A B request reply (N.runs {n} {end} lt runs) h = ran_named O A n end runs h
-stuck_named O A B request reply (N.breaks_at sets) h = set_named (length O.names) A B _ reply sets
-stuck_named O A B request reply (N.breaks_rule rule has is sets) h = set_named (length O.names) A B _ reply sets
-stuck_named O A B request reply (N.breaks_replica p is sets) h = set_named (length O.names) A B _ reply sets
-stuck_named O A B request reply _ h = tt
+-- a request leaves them named
+pub replies_named : (O : Origin) (A B : Session) (request : Request) (reply : Reply) → Replies O A request B reply → All (λ x. AreNamed x (length O.names)) A.schedule → AllNamedIn (length O.names) B reply
+replies_named O A B request reply (N.steps {n} {p} {end} le goes) h = (h, goes_named O A (A.position + n) p end goes h)
+replies_named O A B request reply (N.goes_to {n} {p} {end} le goes) h = (h, goes_named O A n p end goes h)
+replies_named O A B request reply (N.acts event spelled acts) h = acts_named O A B event reply spelled.resolved.known acts h
+replies_named O A B request reply (N.runs {n} {end} lt runs) h = (h, ran_named O A n end runs h)
+replies_named O A B request reply (N.breaks_at sets) h = sets_named (length O.names) A B _ reply sets h
+replies_named O A B request reply (N.breaks_rule rule has is sets) h = sets_named (length O.names) A B _ reply sets h
+replies_named O A B request reply (N.breaks_replica p is sets) h = sets_named (length O.names) A B _ reply sets h
+replies_named O A B request reply _ h = (h, tt)
+
+pub answer_named : (O : Origin) (A B : Session) (line : Line) (text : List ℕ) → LineAnswer O A line B text → All (λ x. AreNamed x (length O.names)) A.schedule → All (λ x. AreNamed x (length O.names)) B.schedule
+answer_named O A B line text (N.replies {reply} request is replies) h = (replies_named O A B request reply replies h).0
+answer_named O A B line text _ h = h

@@ -17,7 +17,7 @@ use Rattle.jc_dump.specs.Texts.{given_text}
 use Rattle.jc_meaning.specs.declared.comparison.Comparison.{Comparison}
 use Rattle.jc_debug.specs.declared.breaks.Break.{Break}
 use Rattle.jc_debug.specs.declared.breaks.Break.TheVariants as Kind
-use Rattle.jc_debug.specs.DebuggerState.{Session, IsNetworkAt, MakesEvent, StuckEvent, GoesTo, RunOutcome, Runs, moved_to, with_break, new_session}
+use Rattle.jc_debug.specs.DebuggerState.{Session, IsNetworkAt, MakesEvent, StuckEvent, GoesTo, moved_to, with_break, new_session}
 use Rattle.jc_debug.proofs.BreaksLemmas.{one_makes}
 use Rattle.jc_debug.proofs.LawsLemmas.{one_network, one_goes, one_least, one_run}
 use Rattle.jc_scenario.specs.Laws.{OneScenario, OneFault, ScenarioOrFault, ScenariosAreWellFormed}
@@ -40,21 +40,12 @@ use Rattle.jc_session.proofs.AnswersUniqueLemmas.{one_named, one_fault_line, Eve
 abbrev Same : Session → Session → Reply → Reply → Type 0
 Same B C t u = (B ≡ C) × (t ≡ u)
 
--- what is seen in the network at the position
-seen_in : (O : Origin) (A : Session) (N M : Network) (reply : Network → Reply) → IsNetworkAt O.start A.schedule A.position N → IsNetworkAt O.start A.schedule A.position M → Same A A (reply N) (reply M)
-seen_in O A N M reply a b = (refl, ap reply (one_network O.start A.schedule A.position N M a b))
-
 -- ---- moves and runs
 
 went_once : (O : Origin) (A : Session) (to p q : ℕ) (end other : Option StuckEvent) → GoesTo O.start A.schedule A.position to p end → GoesTo O.start A.schedule A.position to q other → Same (moved_to A p) (moved_to A q) (Y.went p end) (Y.went q other)
 went_once O A to p q end other a b =
     let one = one_goes O.start A.schedule A.position to p q end other a b in
     (ap (moved_to A) one.0, λ i. Y.went (one.0 i) (one.1 i))
-
-ran_once : (O : Origin) (A : Session) (n m : ℕ) (end other : RunOutcome) → Runs O.start A n end → Runs O.start A m other → Same (moved_to A n) (moved_to A m) (Y.ran n end) (Y.ran m other)
-ran_once O A n m end other a b =
-    let one = one_run O.start A n m end other a b in
-    (ap (moved_to A) one.0, λ i. Y.ran (one.0 i) (one.1 i))
 
 -- ---- events of a line
 
@@ -63,7 +54,6 @@ no_step O A event why N M new rows a stuck b step =
     stuck_in_has_none M new event why rows (subst (λ (L : Network). IsStuckIn L event why) (one_network O.start A.schedule A.position N M a b) stuck) step
 
 acts_once : (O : Origin) (A B C : Session) (event : Event) (t u : Reply) → ActsOn O A event B t → ActsOn O A event C u → Same B C t u
-acts_once O A B C event t u (N.full is) (N.full it) = (refl, refl)
 acts_once O A B C event t u (N.full is) (N.stuck due M lt b other) = absurd (omega (arith, is, lt))
 acts_once O A B C event t u (N.full is) (N.made M new rows lt b step) = absurd (omega (arith, is, lt))
 acts_once O A B C event t u (N.stuck why L lt a stuck) (N.full is) = absurd (omega (arith, is, lt))
@@ -73,7 +63,7 @@ acts_once O A B C event t u (N.stuck why L lt a stuck) (N.stuck due M less b oth
 acts_once O A B C event t u (N.stuck why L lt a stuck) (N.made M new rows less b step) = absurd (no_step O A event why L M new rows a stuck b step)
 acts_once O A B C event t u (N.made L new rows lt a step) (N.full is) = absurd (omega (arith, is, lt))
 acts_once O A B C event t u (N.made L new rows lt a step) (N.stuck why M less b stuck) = absurd (no_step O A event why M L new rows b stuck a step)
-acts_once O A B C event t u (N.made L new rows lt a step) (N.made M other more less b next) = (refl, refl)
+acts_once O A B C event t u _ _ = (refl, refl)
 
 -- ---- breakpoints
 
@@ -85,33 +75,20 @@ sets_once A B C b t u (N.set {j} least) (N.none_free none) = absurd (none j leas
 sets_once A B C b t u (N.none_free none) (N.set {j} least) = absurd (none j least.0)
 sets_once A B C b t u (N.none_free none) (N.none_free other) = (refl, refl)
 
--- what the request to take breakpoint k away leads to
-data Clears (A : Session) (k : ℕ) (B : Session) (t : Reply) : Type 0 where
-  cleared : (j : ℕ) (b : Break)
-      → k ≡ j + 1
-      → slice_get A.breaks j ≡ Some (Some b)
-      → B ≡ with_break A j None
-      → t ≡ Y.cleared (j + 1)
-      → Clears A k B t
-  no_such : ((j : ℕ) (b : Break) → k ≡ j + 1 → slice_get A.breaks j ≢ Some (Some b))
-      → B ≡ A
-      → t ≡ Y.refused F.NoSuchBreak
-      → Clears A k B t
+-- breakpoint j + 1 is taken away
+clears_once : (O : Origin) (A C : Session) (q : Request) (j : ℕ) (b : Break) (u : Reply) → q ≡ Q.unbreak (j + 1) → slice_get A.breaks j ≡ Some (Some b) → Replies O A q C u → Same (with_break A j None) C (Y.cleared (j + 1)) u
+clears_once O A C q j b u e is (N.clears i d it) =
+    let number : i + 1 ≡ j + 1 = cc in
+    let same : j ≡ i = omega (arith, number) in
+    (ap (λ (n : ℕ). with_break A n None) same, ap (λ (n : ℕ). Y.cleared (n + 1)) same)
+clears_once O A C q j b u e is (N.no_break {k} none) = let number : k ≡ j + 1 = cc in absurd (none j b number is)
+clears_once O A C q j b u e is r = absurd cc
 
-clears_of : (O : Origin) (A B : Session) (q : Request) (k : ℕ) (t : Reply) → q ≡ Q.unbreak k → Replies O A q B t → Clears A k B t
-clears_of O A B q k t e (N.clears j b is) = let number : j + 1 ≡ k = cc in cleared j b (sym number) is refl refl
-clears_of O A B q k t e (N.no_break {k = n} none) =
-    let number : n ≡ k = cc in
-    no_such (subst (λ (m : ℕ). (j : ℕ) (b : Break) → m ≡ j + 1 → slice_get A.breaks j ≢ Some (Some b)) number none) refl refl
-clears_of O A B q k t e r = absurd cc
-
-clears_once : (A B C : Session) (k : ℕ) (t u : Reply) → Clears A k B t → Clears A k C u → Same B C t u
-clears_once A B C k t u (cleared j b number is B_is t_is) (cleared i d other it C_is u_is) =
-    let same : j ≡ i = omega (arith, number, other) in
-    (B_is ∙ ap (λ (n : ℕ). with_break A n None) same ∙ sym C_is, t_is ∙ ap (λ (n : ℕ). Y.cleared (n + 1)) same ∙ sym u_is)
-clears_once A B C k t u (cleared j b number is B_is t_is) (no_such none C_is u_is) = absurd (none j b number is)
-clears_once A B C k t u (no_such none B_is t_is) (cleared i d other it C_is u_is) = absurd (none i d other it)
-clears_once A B C k t u (no_such none B_is t_is) (no_such other C_is u_is) = (B_is ∙ sym C_is, t_is ∙ sym u_is)
+-- there is no breakpoint k
+no_break_once : (O : Origin) (A C : Session) (q : Request) (k : ℕ) (u : Reply) → q ≡ Q.unbreak k → ((j : ℕ) (b : Break) → k ≡ j + 1 → slice_get A.breaks j ≢ Some (Some b)) → Replies O A q C u → Same A C (Y.refused F.NoSuchBreak) u
+no_break_once O A C q k u e none (N.clears j b is) = let number : j + 1 ≡ k = cc in absurd (none j b (sym number) is)
+no_break_once O A C q k u e none (N.no_break other) = (refl, refl)
+no_break_once O A C q k u e none r = absurd cc
 
 -- ---- what is shown
 
@@ -122,21 +99,14 @@ known names name p is none = none (p, slice_get_within names p name is, get_or_f
 there_once : (L M : Network) (p q : ℕ) (C D : State) → L ≡ M → p ≡ q → slice_get L.states p ≡ Some C → slice_get M.states q ≡ Some D → C ≡ D
 there_once L M p q C D same number a b = same_Some C D (sym a ∙ (λ i. slice_get (same i).states (number i)) ∙ b)
 
-enabled_once : (O : Origin) (A : Session) (N M : Network) (ls ms : List Event) → IsNetworkAt O.start A.schedule A.position N → IsNetworkAt O.start A.schedule A.position M → AreEnabled N (candidates N) ls → AreEnabled M (candidates M) ms → ls ≡ ms
-enabled_once O A N M ls ms a b listed other =
-    let here = subst (λ (L : Network). AreEnabled L (candidates L) ls) (one_network O.start A.schedule A.position N M a b) listed in
-    one_enabled M ls ms here other
-
 compared_once : (C D : State) (t u : Comparison) → Compares C D t → Compares C D u → t ≡ u
-compared_once C D t u (N.same_tree ops tree) (N.same_tree too other) = refl
 compared_once C D t u (N.same_tree ops tree) (N.different_tree too other) = absurd (other tree)
 compared_once C D t u (N.same_tree ops tree) (N.different_ops other) = absurd (other ops)
 compared_once C D t u (N.different_tree ops tree) (N.same_tree too other) = absurd (tree other)
-compared_once C D t u (N.different_tree ops tree) (N.different_tree too other) = refl
 compared_once C D t u (N.different_tree ops tree) (N.different_ops other) = absurd (other ops)
 compared_once C D t u (N.different_ops ops) (N.same_tree too other) = absurd (ops too)
 compared_once C D t u (N.different_ops ops) (N.different_tree too other) = absurd (ops too)
-compared_once C D t u (N.different_ops ops) (N.different_ops other) = refl
+compared_once C D t u _ _ = refl
 
 both_known : (names : List (List ℕ)) (name other : List ℕ) (p q : ℕ) → IsNamed names name p → IsNamed names other q → IsStrange names name ⊎ IsStrange names other → ⊥
 both_known names name other p q a b (inl none) = known names name p a none
@@ -149,55 +119,50 @@ one_reply : (laws : EventLaws) (O : Origin) (A : Session) (q : Request) → IsRi
 one_reply laws O A q rising B t (N.steps {n} {p} {end} le goes) C u (N.steps {p = r} {end = other} less moves) = went_once O A (A.position + n) p r end other goes moves
 one_reply laws O A q rising B t (N.steps {n} le goes) C u (N.steps_past lt) = absurd (omega (arith, le, lt))
 one_reply laws O A q rising B t (N.steps_past lt) C u (N.steps {n} le goes) = absurd (omega (arith, le, lt))
-one_reply laws O A q rising B t (N.steps_past lt) C u (N.steps_past less) = (refl, refl)
-one_reply laws O A q rising B t (N.goes_back le) C u (N.goes_back less) = (refl, refl)
 one_reply laws O A q rising B t (N.goes_back le) C u (N.back_past lt) = absurd (omega (arith, le, lt))
 one_reply laws O A q rising B t (N.back_past lt) C u (N.goes_back le) = absurd (omega (arith, le, lt))
-one_reply laws O A q rising B t (N.back_past lt) C u (N.back_past less) = (refl, refl)
 one_reply laws O A q rising B t (N.goes_to {n} {p} {end} le goes) C u (N.goes_to {p = r} {end = other} less moves) = went_once O A n p r end other goes moves
 one_reply laws O A q rising B t (N.goes_to le goes) C u (N.goes_past lt) = absurd (omega (arith, le, lt))
 one_reply laws O A q rising B t (N.goes_past lt) C u (N.goes_to le goes) = absurd (omega (arith, le, lt))
-one_reply laws O A q rising B t (N.goes_past lt) C u (N.goes_past less) = (refl, refl)
 one_reply laws O A q rising B t (N.acts {rest} e spelled a) C u (N.acts f spelled_too b) =
     let event : e ≡ f = one_spelled laws O.start.version O.names rest e f rising spelled spelled_too in
     acts_once O A B C f t u (subst (λ (x : Event). ActsOn O A x B t) event a) b
 one_reply laws O A q rising B t (N.acts {rest} e spelled a) C u (N.acts_misspelled {refusal} {place} m) = absurd (spelled_or_not laws O.start.version O.names rest refusal place e rising spelled m)
 one_reply laws O A q rising B t (N.acts_misspelled {rest} {refusal} {place} m) C u (N.acts e spelled a) = absurd (spelled_or_not laws O.start.version O.names rest refusal place e rising spelled m)
 one_reply laws O A q rising B t (N.acts_misspelled {rest} {refusal} {place} m) C u (N.acts_misspelled {refusal = other} {place = at} n) = (refl, one_misspelling laws O.start.version O.names rest refusal other place at m n)
-one_reply laws O A q rising B t (N.runs {n} {end} lt runs) C u (N.runs {n = m} {end = other} less moves) = ran_once O A n m end other runs moves
+one_reply laws O A q rising B t (N.runs {n} {end} lt runs) C u (N.runs {n = m} {end = other} less moves) =
+    let one = one_run O.start A n m end other runs moves in
+    (ap (moved_to A) one.0, λ i. Y.ran (one.0 i) (one.1 i))
 one_reply laws O A q rising B t (N.runs lt runs) C u (N.runs_past is) = absurd (omega (arith, lt, is))
 one_reply laws O A q rising B t (N.runs_past is) C u (N.runs lt runs) = absurd (omega (arith, lt, is))
-one_reply laws O A q rising B t (N.runs_past is) C u (N.runs_past it) = (refl, refl)
 one_reply laws O A q rising B t (N.breaks_at {n} a) C u (N.breaks_at b) = sets_once A B C (Kind.Position n) t u a b
 one_reply laws O A q rising B t (N.breaks_rule rule has is a) C u (N.breaks_rule other too it b) =
     let same : rule ≡ other = names_differ rule other (is ∙ sym it) in
     sets_once A B C (Kind.Rule other) t u (subst (λ (r : Rule). Sets A (Kind.Rule r) B t) same a) b
 one_reply laws O A q rising B t (N.breaks_rule rule has is a) C u (N.no_rule none) = absurd (none rule has is)
 one_reply laws O A q rising B t (N.no_rule none) C u (N.breaks_rule rule has is a) = absurd (none rule has is)
-one_reply laws O A q rising B t (N.no_rule none) C u (N.no_rule other) = (refl, refl)
 one_reply laws O A q rising B t (N.breaks_replica {name} p is a) C u (N.breaks_replica r it b) =
     let same : p ≡ r = one_named O.names name p r rising is it in
     sets_once A B C (Kind.Replica r) t u (subst (λ (n : ℕ). Sets A (Kind.Replica n) B t) same a) b
 one_reply laws O A q rising B t (N.breaks_replica {name} p is a) C u (N.no_replica none) = absurd (known O.names name p is none)
 one_reply laws O A q rising B t (N.no_replica {name} none) C u (N.breaks_replica p is a) = absurd (known O.names name p is none)
-one_reply laws O A q rising B t (N.no_replica none) C u (N.no_replica other) = (refl, refl)
-one_reply laws O A q rising B t (N.clears j b is) C u r = clears_once A B C (j + 1) t u (cleared j b refl is refl refl) (clears_of O A C (Q.unbreak (j + 1)) (j + 1) u refl r)
-one_reply laws O A q rising B t (N.no_break {k} none) C u r = clears_once A B C k t u (no_such none refl refl) (clears_of O A C (Q.unbreak k) k u refl r)
-one_reply laws O A q rising B t (N.states L is) C u (N.states M it) = seen_in O A L M (λ (K : Network). Y.states K.states) is it
+one_reply laws O A q rising B t (N.clears j b is) C u r = clears_once O A C (Q.unbreak (j + 1)) j b u refl is r
+one_reply laws O A q rising B t (N.no_break {k} none) C u r = no_break_once O A C (Q.unbreak k) k u refl none r
+one_reply laws O A q rising B t (N.states L is) C u (N.states M it) = (refl, ap (λ (K : Network). Y.states K.states) (one_network O.start A.schedule A.position L M is it))
 one_reply laws O A q rising B t (N.state_of {name} L p D is named here) C u (N.state_of M r E it other there) =
     let same : L ≡ M = one_network O.start A.schedule A.position L M is it in
     (refl, ap (Y.state_of name) (there_once L M p r D E same (one_named O.names name p r rising named other) here there))
 one_reply laws O A q rising B t (N.state_of {name} L p D is named here) C u (N.no_state none) = absurd (known O.names name p named none)
 one_reply laws O A q rising B t (N.no_state {name} none) C u (N.state_of L p D is named here) = absurd (known O.names name p named none)
-one_reply laws O A q rising B t (N.no_state none) C u (N.no_state other) = (refl, refl)
 one_reply laws O A q rising B t (N.traces {n} {event} {rows} is makes) C u (N.traces {n = m} {event = other} {rows = others} it too) =
     let same : n ≡ m = omega (arith, is, it) in
     let one = one_makes O.start A.schedule m event other rows others (subst (λ (k : ℕ). MakesEvent O.start A.schedule k event rows) same makes) too in
     (refl, λ i. Y.traced (same i + 1) (one.0 i) (one.1 i))
 one_reply laws O A q rising B t (N.traces {n} is makes) C u (N.at_start it) = absurd (omega (arith, is, it))
 one_reply laws O A q rising B t (N.at_start is) C u (N.traces {n} it makes) = absurd (omega (arith, is, it))
-one_reply laws O A q rising B t (N.at_start is) C u (N.at_start it) = (refl, refl)
-one_reply laws O A q rising B t (N.enables L ls is listed) C u (N.enables M ms it other) = (refl, ap Y.enabled (enabled_once O A L M ls ms is it listed other))
+one_reply laws O A q rising B t (N.enables L ls is listed) C u (N.enables M ms it other) =
+    let here = subst (λ (K : Network). AreEnabled K (candidates K) ls) (one_network O.start A.schedule A.position L M is it) listed in
+    (refl, ap Y.enabled (one_enabled M ls ms here other))
 one_reply laws O A q rising B t N.lists C u N.lists = (refl, refl)
 one_reply laws O A q rising B t N.tells C u N.tells = (refl, refl)
 one_reply laws O A q rising B t (N.compares {name} {other} {found = x} L p r D E is one two here there found) C u (N.compares {found = y} M s v F G it first second at too more) =
@@ -207,7 +172,7 @@ one_reply laws O A q rising B t (N.compares {name} {other} {found = x} L p r D E
     (refl, ap Y.compared (compared_once F G x y (subst (λ (K : State). Compares F K x) right (subst (λ (K : State). Compares K E x) left found)) more))
 one_reply laws O A q rising B t (N.compares {name} {other} L p r D E is one two here there found) C u (N.no_compared none) = absurd (both_known O.names name other p r one two none)
 one_reply laws O A q rising B t (N.no_compared {name} {other} none) C u (N.compares L p r D E is one two here there found) = absurd (both_known O.names name other p r one two none)
-one_reply laws O A q rising B t (N.no_compared none) C u (N.no_compared other) = (refl, refl)
+one_reply laws O A q rising B t _ C u _ = (refl, refl)
 
 -- ---- lines
 
@@ -224,11 +189,9 @@ never_quit O A B l t (N.replies {reply} q is r) e =
     no_reply O A B reply (subst (λ (x : Request). Replies O A x B reply) same r)
 
 one_answer : (laws : EventLaws) (O : Origin) (A B C : Session) (l : Line) (t u : List ℕ) → IsRising name_cmp O.names → LineAnswer O A l B t → LineAnswer O A l C u → (B ≡ C) × (t ≡ u)
-one_answer laws O A B C l t u rising (N.empty is) (N.empty it) = (refl, refl)
 one_answer laws O A B C l t u rising (N.empty is) (N.refused it) = let no : nothing ≡ bad = sym is ∙ it in absurd (cc)
 one_answer laws O A B C l t u rising (N.empty is) (N.replies q it r) = let no : nothing ≡ asks q = sym is ∙ it in absurd (cc)
 one_answer laws O A B C l t u rising (N.refused is) (N.empty it) = let no : bad ≡ nothing = sym is ∙ it in absurd (cc)
-one_answer laws O A B C l t u rising (N.refused is) (N.refused it) = (refl, refl)
 one_answer laws O A B C l t u rising (N.refused is) (N.replies q it r) = let no : bad ≡ asks q = sym is ∙ it in absurd (cc)
 one_answer laws O A B C l t u rising (N.replies q is r) (N.empty it) = let no : asks q ≡ nothing = sym is ∙ it in absurd (cc)
 one_answer laws O A B C l t u rising (N.replies q is r) (N.refused it) = let no : asks q ≡ bad = sym is ∙ it in absurd (cc)
@@ -237,30 +200,27 @@ one_answer laws O A B C l t u rising (N.replies {reply = x} q is r) (N.replies {
     let same : q ≡ p = cc in
     let one = one_reply laws O A p rising B x (subst (λ (w : Request). Replies O A w B x) same r) C y s in
     (one.0, ap (reply_text O.names) one.1)
+one_answer laws O A B C l t u rising _ _ = (refl, refl)
 
 -- ---- whole sessions
 
 -- What is left of the lines that are due: nothing, or `quit` comes next.
-data Rest (due_end : End) : List Line → End → Type 0 where
-  none_left : Rest due_end [] due_end
-  quits : (x : Line) (more : List Line) → meaning x ≡ asks Q.quit → Rest due_end (x ∷ more) finished
+abbrev IsRest : End → List Line → End → Type 0
+IsRest due_end [] end = end ≡ due_end
+IsRest due_end (x ∷ more) end = (meaning x ≡ asks Q.quit) × (end ≡ finished)
 
-rest_of : (lines due : List Line) (end due_end : End) → Ends lines end due due_end → (more : List Line) × (due ≡ lines ++ more) × Rest due_end more end
-rest_of lines due end due_end at_the_end = ([], sym (append-nil lines), none_left)
-rest_of lines due end due_end (at_quit x more is q) = (x ∷ more, is, quits x more q)
+rest_of : (lines due : List Line) (end due_end : End) → Ends lines end due due_end → (more : List Line) × (due ≡ lines ++ more) × IsRest due_end more end
+rest_of lines due end due_end at_the_end = ([], sym (append-nil lines), refl)
+rest_of lines due end due_end (at_quit x more is q) = (x ∷ more, is, (q, refl))
 
-one_rest : (due_end end other : End) (more : List Line) → Rest due_end more end → Rest due_end more other → end ≡ other
-one_rest due_end end other more none_left none_left = refl
-one_rest due_end end other more (quits x xs q) (quits y ys r) = refl
+one_rest : (due_end end other : End) (more : List Line) → IsRest due_end more end → IsRest due_end more other → end ≡ other
+one_rest due_end end other [] r s = r ∙ sym s
+one_rest due_end end other (x ∷ more) r s = r.1 ∙ sym s.1
 
-quit_next : (due_end end : End) (more xs : List Line) (x : Line) → Rest due_end more end → more ≡ x ∷ xs → meaning x ≡ asks Q.quit
-quit_next due_end end more xs x none_left e = absurd cc
-quit_next due_end end more xs x (quits y ys q) e = let same : y ≡ x = cc in subst (λ (l : Line). meaning l ≡ asks Q.quit) same q
-
-one_talk : (laws : EventLaws) (O : Origin) (A B C : Session) (xs ys more rest : List Line) (due_end end other : End) (t u : List ℕ) → IsRising name_cmp O.names → xs ++ more ≡ ys ++ rest → Rest due_end more end → Rest due_end rest other → AnswersLines O A xs B t → AnswersLines O A ys C u → (t ≡ u) × (end ≡ other)
-one_talk laws O A B C [] [] more rest due_end end other t u rising e r s a b = (a.1 ∙ sym b.1, one_rest due_end end other rest (subst (λ (l : List Line). Rest due_end l end) e r) s)
-one_talk laws O A B C [] (y ∷ ys) more rest due_end end other t u rising e r s a b = absurd (never_quit O A b.0 y b.1 b.3 (quit_next due_end end more (ys ++ rest) y r e))
-one_talk laws O A B C (x ∷ xs) [] more rest due_end end other t u rising e r s a b = absurd (never_quit O A a.0 x a.1 a.3 (quit_next due_end other rest (xs ++ more) x s (sym e)))
+one_talk : (laws : EventLaws) (O : Origin) (A B C : Session) (xs ys more rest : List Line) (due_end end other : End) (t u : List ℕ) → IsRising name_cmp O.names → xs ++ more ≡ ys ++ rest → IsRest due_end more end → IsRest due_end rest other → AnswersLines O A xs B t → AnswersLines O A ys C u → (t ≡ u) × (end ≡ other)
+one_talk laws O A B C [] [] more rest due_end end other t u rising e r s a b = (a.1 ∙ sym b.1, one_rest due_end end other rest (subst (λ (l : List Line). IsRest due_end l end) e r) s)
+one_talk laws O A B C [] (y ∷ ys) more rest due_end end other t u rising e r s a b = absurd (never_quit O A b.0 y b.1 b.3 (subst (λ (l : List Line). IsRest due_end l end) e r).0)
+one_talk laws O A B C (x ∷ xs) [] more rest due_end end other t u rising e r s a b = absurd (never_quit O A a.0 x a.1 a.3 (subst (λ (l : List Line). IsRest due_end l other) (sym e) s).0)
 one_talk laws O A B C (x ∷ xs) (y ∷ ys) more rest due_end end other t u rising e r s a b =
     let line : x ≡ y = cc in
     let tail : xs ++ more ≡ ys ++ rest = cc in
@@ -273,7 +233,7 @@ one_ending laws O A bytes t u end other rising a b =
     let due = one_within 67108864 1000000 bytes a.due b.due a.due_end b.due_end a.are_due b.are_due in
     let r = rest_of a.lines a.due end a.due_end a.ends in
     let s = rest_of b.lines b.due other b.due_end b.ends in
-    one_talk laws O A a.last b.last a.lines b.lines r.0 s.0 b.due_end end other t u rising (sym r.1 ∙ due.0 ∙ s.1) (subst (λ (x : End). Rest x r.0 end) due.1 r.2) s.2 a.answers b.answers
+    one_talk laws O A a.last b.last a.lines b.lines r.0 s.0 b.due_end end other t u rising (sym r.1 ∙ due.0 ∙ s.1) (subst (λ (x : End). IsRest x r.0 end) due.1 r.2) s.2 a.answers b.answers
 
 -- what holds from the start of a scenario
 pub record StartLaws : Type 0 where

@@ -8,7 +8,6 @@ pub mod SessionTextLemmas
 pub mod TextsListLemmas
 pub mod AnswerOfLemmas
 pub mod AnswerTextLemmas
-pub mod FaultLinesLemmas
 pub mod AnswersUniqueLemmas
 pub mod LawsLemmas
 pub mod SentLemmas

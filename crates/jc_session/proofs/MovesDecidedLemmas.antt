@@ -1,6 +1,7 @@
 -- Of `Answers`: a move to each later position, and a run, where each event is made or stuck, for `SomeReplyLemmas`.
-use Rattle.std.proofs.Common.{◌≡◌, ◌⊎◌, inl, inr, ℕ, zero, suc, ◌+◌, ◌-◌, ◌<◌, ◌≤◌, List, [], ◌∷◌, ◌++◌, length, take, slice_get, Option, Some, None, refl, ap, sym, subst, ◌∙◌, arith, length-append, length-take-le}
+use Rattle.std.proofs.Common.{◌≡◌, ◌⊎◌, inl, inr, ℕ, zero, suc, ◌+◌, ◌-◌, ◌<◌, ◌≤◌, List, [], ◌∷◌, ◌++◌, length, take, slice_get, Option, Some, None, below_more, refl, ap, sym, subst, ◌∙◌, arith, length-append, length-take-le}
 use Rattle.std.proofs.lemmas.Bool.{cases_lt, cases_eq}
+use Rattle.std.proofs.lemmas.List.{take_all}
 use Rattle.std.proofs.lemmas.Option.{same_Some, slice_get_within}
 use Rattle.jc_rules.specs.declared.operation.Event.{Event}
 use Rattle.jc_rules.specs.declared.rule.Rule.{Rule}
@@ -12,10 +13,9 @@ use Rattle.jc_network.proofs.MembersLemmas.{some_at}
 use Rattle.jc_debug.specs.declared.breaks.Break.{Break}
 use Rattle.jc_debug.specs.declared.breaks.Break.TheVariants as Kind
 use Rattle.jc_debug.specs.DebuggerState.{Session, IsNetworkAt, MakesEvent, IsStuckAt, StuckEvent, GoesTo, arrives, stops, HasRule, Names, NamesAt, IsFree, IsLeast, RunOutcome, breaks, sticks, ends, Runs}
-use Rattle.jc_debug.proofs.BreaksLemmas.{one_makes, no_at_none}
+use Rattle.jc_debug.proofs.BreaksLemmas.{one_makes}
 use Rattle.jc_debug.proofs.LawsLemmas.{cut}
 use Rattle.jc_session.proofs.DecisionsLemmas.{Decided, least, has_rule}
-use Rattle.jc_session.proofs.LinesDueLemmas.{take_whole}
 
 -- ---- networks
 
@@ -47,7 +47,7 @@ acted_at S es n N e M rows a step =
     let size : length (take n es ++ e ∷ []) ≡ n + 1 = length-append (take n es) (e ∷ []) ∙ ap (λ (k : ℕ). k + 1) (length-take-le n es a.within) in
     record {
       within = omega (arith, size);
-      after = subst (λ (l : List Event). AfterIn S l M) (sym (take_whole (n + 1) (take n es ++ e ∷ []) (omega (arith, size)))) (after_one_more S (take n es) N e M rows a.after step);
+      after = subst (λ (l : List Event). AfterIn S l M) (sym (take_all (n + 1) (take n es ++ e ∷ []) (omega (arith, size)))) (after_one_more S (take n es) N e M rows a.after step);
     }
 
 -- ---- moves
@@ -86,15 +86,13 @@ come_to S es from to p end (stops le lt stuck) = (stuck.before, stuck.is_at)
 
 no_other_trace : (S : Network) (es : List Event) (m : ℕ) (event : Event) (rows : List (Rule × ℕ)) (rule : Rule) → MakesEvent S es m event rows → (HasRule rows rule → ⊥) → Names S es (Kind.Rule rule) (suc m) → ⊥
 no_other_trace S es m event rows rule makes none x =
-    let q = x.3 in
-    let same : x.0 ≡ m = omega (arith, q) in
+    let same : x.0 ≡ m = omega (arith, x.3) in
     let there : MakesEvent S es m x.1 x.2 = subst (λ (k : ℕ). MakesEvent S es k x.1 x.2) same x.4 in
     none (subst (λ (r : List (Rule × ℕ)). HasRule r rule) (one_makes S es m x.1 event x.2 rows there makes).1 x.5)
 
 no_other_replica : (S : Network) (es : List Event) (m : ℕ) (event : Event) (p : ℕ) → slice_get es m ≡ Some event → (replica_of event ≡ p → ⊥) → Names S es (Kind.Replica p) (suc m) → ⊥
 no_other_replica S es m event p is other x =
-    let q = x.2 in
-    let same : x.0 ≡ m = omega (arith, q) in
+    let same : x.0 ≡ m = omega (arith, x.2) in
     let one : x.1 ≡ event = same_Some x.1 event (sym x.3 ∙ ap (slice_get es) same ∙ is) in
     other (ap replica_of (sym one) ∙ x.4)
 
@@ -108,8 +106,7 @@ named S es m N a (Kind.Rule rule) =
       | inr none ↦ inr (no_other_trace S es m event rows rule makes none)
     ]
 named S es m N a (Kind.Replica p) =
-    let w = a.within in
-    let (event, is) = some_at es m (omega (arith, w)) in
+    let (event, is) = some_at es m (omega (arith, a.within)) in
     elim (cases_eq (replica_of event) p) [
       | inl same ↦ inl (m, event, omega arith, is, same)
       | inr other ↦ inr (no_other_replica S es m event p is other)
@@ -119,8 +116,6 @@ named_at : (S : Network) (A : Session) (m : ℕ) (N : Network) → IsNetworkAt S
 named_at S A m N a j = by_place (slice_get A.breaks j) refl
   where
     by_place : (o : Option (Option Break)) → slice_get A.breaks j ≡ o → Decided (NamesAt S A (suc m) j)
-    by_place None e = inr (λ (b, at, names). (let no : None ≡ Some (Some b) = sym e ∙ at in cc))
-    by_place (Some None) e = inr (no_at_none S A (suc m) j e)
     by_place (Some (Some b)) e =
         elim (named S A.schedule m N a b) [
           | inl names ↦ inl (b, e, names)
@@ -129,23 +124,17 @@ named_at S A m N a j = by_place (slice_get A.breaks j) refl
               (let same : c ≡ b = same_Some c b (same_Some (Some c) (Some b) (sym at ∙ e)) in
               none (subst (λ (x : Break). Names S A.schedule x (suc m)) same names)))
         ]
+    by_place o e = inr (λ (b, at, names). (let no : o ≡ Some (Some b) = sym e ∙ at in cc))
 
 -- a least breakpoint names a later position than the first, or none does
-named_or_free : (S : Network) (A : Session) (m n : ℕ) (N : Network) → suc m ≡ n → IsNetworkAt S A.schedule n N → ((j : ℕ) × IsLeast (NamesAt S A n) j) ⊎ IsFree S A n
-named_or_free S A m n N e a = subst (λ (k : ℕ). ((j : ℕ) × IsLeast (NamesAt S A k) j) ⊎ IsFree S A k) e here
-  where
-    here : ((j : ℕ) × IsLeast (NamesAt S A (suc m)) j) ⊎ IsFree S A (suc m)
-    here =
-        elim (least (NamesAt S A (suc m)) (named_at S A m N (subst (λ (k : ℕ). IsNetworkAt S A.schedule k N) (sym e) a)) (length A.breaks)) [
-          | inl found ↦ inl found
-          | inr none ↦ inr (λ j (b, at, names). none j (slice_get_within A.breaks j (Some b) at) (b, at, names))
-        ]
+named_or_free : (S : Network) (A : Session) (m : ℕ) (N : Network) → IsNetworkAt S A.schedule (suc m) N → ((j : ℕ) × IsLeast (NamesAt S A (suc m)) j) ⊎ IsFree S A (suc m)
+named_or_free S A m N a =
+    elim (least (NamesAt S A (suc m)) (named_at S A m N a) (length A.breaks)) [
+      | inl found ↦ inl found
+      | inr none ↦ inr (λ j (b, at, names). none j (slice_get_within A.breaks j (Some b) at) (b, at, names))
+    ]
 
 -- ---- runs
-
-some_before : (a b : ℕ) → a < b → (m : ℕ) × (suc m ≡ b)
-some_before a zero lt = absurd (omega (arith, lt))
-some_before a (suc b) lt = (b, refl)
 
 module _ (S : Network) (decides : Decides S) (A : Session) where
   abbrev Ran : Type 0
@@ -155,23 +144,17 @@ module _ (S : Network) (decides : Decides S) (A : Session) where
   IsQuiet n = (m : ℕ) → A.position < m → m < n → IsFree S A m
 
   more_quiet : (n : ℕ) → IsQuiet n → (A.position < n → IsFree S A n) → IsQuiet (suc n)
-  more_quiet n quiet free m past lt =
-      elim (cases_lt m n) [
-        | inl less ↦ quiet m past less
-        | inr most ↦
-            let same : n ≡ m = omega (arith, lt, most) in
-            subst (λ (k : ℕ). IsFree S A k) same (free (omega (arith, past, same)))
-      ]
+  more_quiet n quiet free m past lt = below_more (λ k. A.position < k → IsFree S A k) n (λ k less beyond. quiet k beyond less) free m (omega (arith, lt)) past
 
   -- a run ends at a breakpoint, or goes on
   at_break : (n : ℕ) (N : Network) → A.position ≤ n → IsNetworkAt S A.schedule n N → IsQuiet n → ((A.position < n → IsFree S A n) → Ran) → Ran
-  at_break n N le a quiet on =
-      elim (cases_lt A.position n) [
+  at_break zero N le a quiet on = on (λ past. absurd (omega (arith, past)))
+  at_break (suc m) N le a quiet on =
+      elim (cases_lt A.position (suc m)) [
         | inr first ↦ on (λ past. absurd (omega (arith, first, past)))
         | inl past ↦
-            let (m, is) = some_before A.position n past in
-            elim (named_or_free S A m n N is a) [
-              | inl (j, least) ↦ (n, breaks j, record { network = N; is_at = a; forward = le; quiet = quiet; at = (past, least) })
+            elim (named_or_free S A m N a) [
+              | inl (j, least) ↦ (suc m, breaks j, record { network = N; is_at = a; forward = le; quiet = quiet; at = (past, least) })
               | inr free ↦ on (λ h. free)
             ]
       ]

@@ -1,10 +1,12 @@
 -- Of `Requests`: the words of a line, from the first one on, and what the line means.
-use Rattle.std.proofs.Common.{◌≡◌, ◌≢◌, ℕ, zero, suc, ◌+◌, ◌<◌, ◌≤◌, nat_le, nat_lt, ◌==◌, List, [], ◌∷◌, length, take, drop, filter, get_or, Bool, true, false, not, ◌&&◌, codes, None, Some, refl, ap, sym, subst, ◌∙◌, arith}
+use Rattle.std.proofs.Common.{◌≡◌, ◌≢◌, ℕ, zero, suc, ◌<◌, ◌≤◌, nat_le, nat_lt, ◌==◌, List, [], ◌∷◌, length, take, drop, filter, get_or, Bool, true, false, not, ◌&&◌, codes, None, Some, inl, inr, refl, ap, sym, subst, ◌∙◌, arith}
 use Rattle.std.specs.List.{slice_split, prefix_len, position_or_len, list_all, onto_first}
 use Rattle.std.specs.Str.{IsUtf8, IsAscii, bytes_eq, all_ascii_digits}
 use Rattle.std.specs.Char.{is_ascii_digit}
-use Rattle.std.proofs.lemmas.Bool.{and_parts, and_from, ltb-true}
+use Rattle.std.proofs.lemmas.Bool.{and_parts, and_from, or_cases, ltb-true, leb-true}
 use Rattle.std.proofs.lemmas.Bool.Decides.{nat_tests}
+use Rattle.std.proofs.lemmas.List.Elements.{All-take, All-drop}
+use Rattle.std.proofs.lemmas.List.Sums.{AllPass-from_list_all, list_all-from_AllPass}
 use Rattle.std.proofs.lemmas.List.Splits.{slice_split-cons_yes, slice_split-cons_no}
 use Rattle.std.proofs.lemmas.Slice.Eq.{bytes_eq-Decides}
 use Rattle.std.proofs.lemmas.Str.{IsUtf8-from_ascii}
@@ -17,72 +19,33 @@ use Rattle.jc_session.specs.Views.{AreAscii}
 abbrev is_some : List ℕ → Bool
 is_some w = not (length w == 0)
 
-one_more : (n : ℕ) → 1 + n ≡ suc n
-one_more n = omega arith
+-- the first part is before the first blank, and the others have the words after it
+abbrev ArePartsOf : List ℕ → List (List ℕ) → Type 0
+ArePartsOf xs more = (slice_split is_blank_char xs ≡ take (position_or_len is_blank_char xs) xs ∷ more) × (filter is_some more ≡ words (drop (position_or_len is_blank_char xs) xs))
 
--- The first part is before the first blank, and the others have the words after it.
-record Parted (xs : List ℕ) : Type 0 where
-  more : List (List ℕ)
-  is : slice_split is_blank_char xs ≡ take (position_or_len is_blank_char xs) xs ∷ more
-  words_are : filter is_some more ≡ words (drop (position_or_len is_blank_char xs) xs)
-
-parted : (xs : List ℕ) → Parted xs
-parted [] = record { more = []; is = refl; words_are = refl }
+parted : (xs : List ℕ) → (more : List (List ℕ)) × ArePartsOf xs more
+parted [] = ([], (refl, refl))
 parted (b ∷ bs) = by_test (is_blank_char b) refl (parted bs)
   where
-    by_test : (t : Bool) → is_blank_char b ≡ t → Parted bs → Parted (b ∷ bs)
+    by_test : (t : Bool) → is_blank_char b ≡ t → (more : List (List ℕ)) × ArePartsOf bs more → (more : List (List ℕ)) × ArePartsOf (b ∷ bs) more
     by_test true e p =
         let none : position_or_len is_blank_char (b ∷ bs) ≡ 0 = rw e refl in
         let split = slice_split-cons_yes is_blank_char b bs e in
-        record {
-          more = slice_split is_blank_char bs;
-          is = split ∙ ap (λ n. take n (b ∷ bs) ∷ slice_split is_blank_char bs) (sym none);
-          words_are = sym (ap (λ n. words (drop n (b ∷ bs))) none ∙ ap (filter is_some) split);
-        }
-    by_test false e p =
-        let n = position_or_len is_blank_char bs in
-        let next : position_or_len is_blank_char (b ∷ bs) ≡ suc n = rw e (one_more n) in
+        let words_are = ap (λ n. words (drop n (b ∷ bs))) none ∙ ap (filter is_some) split in
+        (slice_split is_blank_char bs, (split ∙ ap (λ n. take n (b ∷ bs) ∷ slice_split is_blank_char bs) (sym none), sym words_are))
+    by_test false e (more, (is, words_are)) =
+        let next : position_or_len is_blank_char (b ∷ bs) ≡ suc (position_or_len is_blank_char bs) = rw e (omega arith) in
         let split = slice_split-cons_no is_blank_char b bs e in
-        record {
-          more = p.more;
-          is = split ∙ ap (onto_first b) p.is ∙ ap (λ m. take m (b ∷ bs) ∷ p.more) (sym next);
-          words_are = p.words_are ∙ sym (ap (λ m. words (drop m (b ∷ bs))) next);
-        }
-
--- blanks before the text change nothing
-pub words_past : (xs : List ℕ) → words (past is_blank_char xs) ≡ words xs
-words_past [] = refl
-words_past (b ∷ bs) = by_test (is_blank_char b) refl (words_past bs)
-  where
-    by_test : (t : Bool) → is_blank_char b ≡ t → words (past is_blank_char bs) ≡ words bs → words (past is_blank_char (b ∷ bs)) ≡ words (b ∷ bs)
-    by_test true e h =
-        let next : prefix_len is_blank_char (b ∷ bs) ≡ suc (prefix_len is_blank_char bs) = rw e (one_more (prefix_len is_blank_char bs)) in
-        ap (λ n. words (drop n (b ∷ bs))) next ∙ h ∙ sym (ap (filter is_some) (slice_split-cons_yes is_blank_char b bs e))
-    by_test false e h = let none : prefix_len is_blank_char (b ∷ bs) ≡ 0 = rw e refl in ap (λ n. words (drop n (b ∷ bs))) none
-
--- after them is nothing, or a byte that is no blank
-pub data IsPast (ys : List ℕ) : Type 0 where
-  nothing_left : ys ≡ [] → IsPast ys
-  some_left : (b : ℕ) (bs : List ℕ) → ys ≡ b ∷ bs → is_blank_char b ≡ false → IsPast ys
-
-pub is_past : (xs : List ℕ) → IsPast (past is_blank_char xs)
-is_past [] = nothing_left refl
-is_past (b ∷ bs) = by_test (is_blank_char b) refl (is_past bs)
-  where
-    by_test : (t : Bool) → is_blank_char b ≡ t → IsPast (past is_blank_char bs) → IsPast (past is_blank_char (b ∷ bs))
-    by_test true e h =
-        let next : prefix_len is_blank_char (b ∷ bs) ≡ suc (prefix_len is_blank_char bs) = rw e (one_more (prefix_len is_blank_char bs)) in
-        subst IsPast (sym (ap (λ n. drop n (b ∷ bs)) next)) h
-    by_test false e h = let none : prefix_len is_blank_char (b ∷ bs) ≡ 0 = rw e refl in some_left b bs (ap (λ n. drop n (b ∷ bs)) none) e
+        (more, (split ∙ ap (onto_first b) is ∙ ap (λ m. take m (b ∷ bs) ∷ more) (sym next), words_are ∙ sym (ap (λ m. words (drop m (b ∷ bs))) next)))
 
 -- the words of what begins with no blank
 from_word : (b : ℕ) (bs : List ℕ) → is_blank_char b ≡ false → words (b ∷ bs) ≡ take (position_or_len is_blank_char (b ∷ bs)) (b ∷ bs) ∷ words (drop (position_or_len is_blank_char (b ∷ bs)) (b ∷ bs))
 from_word b bs e =
-    let p = parted (b ∷ bs) in
+    let (more, (is, words_are)) = parted (b ∷ bs) in
     let n = position_or_len is_blank_char bs in
-    let next : position_or_len is_blank_char (b ∷ bs) ≡ suc n = rw e (one_more n) in
+    let next : position_or_len is_blank_char (b ∷ bs) ≡ suc n = rw e (omega arith) in
     let some : is_some (take (position_or_len is_blank_char (b ∷ bs)) (b ∷ bs)) ≡ true = ap (λ m. is_some (take m (b ∷ bs))) next ∙ not_none (take n bs) in
-    ap (filter is_some) p.is ∙ kept (take (position_or_len is_blank_char (b ∷ bs)) (b ∷ bs)) p.more some ∙ ap (λ ws. take (position_or_len is_blank_char (b ∷ bs)) (b ∷ bs) ∷ ws) p.words_are
+    ap (filter is_some) is ∙ kept (take (position_or_len is_blank_char (b ∷ bs)) (b ∷ bs)) more some ∙ ap (λ ws. take (position_or_len is_blank_char (b ∷ bs)) (b ∷ bs) ∷ ws) words_are
   where
     not_none : (xs : List ℕ) → is_some (b ∷ xs) ≡ true
     not_none xs = grind (arith, nat_tests)
@@ -90,29 +53,38 @@ from_word b bs e =
     kept : (w : List ℕ) (ws : List (List ℕ)) → is_some w ≡ true → filter is_some (w ∷ ws) ≡ w ∷ filter is_some ws
     kept w ws t = rw t refl
 
-pub no_words : (xs ys : List ℕ) → ys ≡ past is_blank_char xs → ys ≡ [] → words xs ≡ []
-no_words xs ys e n = sym (words_past xs) ∙ ap words (sym e ∙ n)
+-- what the words are of a text whose rest after its first blanks is this
+abbrev HasFirst : List Word → List ℕ → Type 0
+HasFirst ws [] = ws ≡ []
+HasFirst ws (y ∷ ys) = ws ≡ take (position_or_len is_blank_char (y ∷ ys)) (y ∷ ys) ∷ words (drop (position_or_len is_blank_char (y ∷ ys)) (y ∷ ys))
 
-pub first_of_words : (xs ys : List ℕ) → ys ≡ past is_blank_char xs → ys ≢ [] → words xs ≡ take (position_or_len is_blank_char ys) ys ∷ words (drop (position_or_len is_blank_char ys) ys)
-first_of_words xs ys e some = sym (words_past xs) ∙ ap words (sym e) ∙ by_kind (subst IsPast (sym e) (is_past xs))
+has_first : (xs : List ℕ) → HasFirst (words xs) (past is_blank_char xs)
+has_first [] = refl
+has_first (b ∷ bs) = by_test (is_blank_char b) refl (has_first bs)
   where
-    by_kind : IsPast ys → words ys ≡ take (position_or_len is_blank_char ys) ys ∷ words (drop (position_or_len is_blank_char ys) ys)
-    by_kind (nothing_left n) = absurd (some n)
-    by_kind (some_left b bs s t) = subst (λ (zs : List ℕ). words zs ≡ take (position_or_len is_blank_char zs) zs ∷ words (drop (position_or_len is_blank_char zs) zs)) (sym s) (from_word b bs t)
+    by_test : (t : Bool) → is_blank_char b ≡ t → HasFirst (words bs) (past is_blank_char bs) → HasFirst (words (b ∷ bs)) (past is_blank_char (b ∷ bs))
+    by_test true e h =
+        let next : prefix_len is_blank_char (b ∷ bs) ≡ suc (prefix_len is_blank_char bs) = rw e (omega arith) in
+        let same : words (b ∷ bs) ≡ words bs = ap (filter is_some) (slice_split-cons_yes is_blank_char b bs e) in
+        subst (λ (n : ℕ). HasFirst (words (b ∷ bs)) (drop n (b ∷ bs))) (sym next) (subst (λ (ws : List Word). HasFirst ws (past is_blank_char bs)) (sym same) h)
+    by_test false e h =
+        let none : prefix_len is_blank_char (b ∷ bs) ≡ 0 = rw e refl in
+        subst (λ (n : ℕ). HasFirst (words (b ∷ bs)) (drop n (b ∷ bs))) (sym none) (from_word b bs e)
+
+pub no_words : (xs ys : List ℕ) → ys ≡ past is_blank_char xs → ys ≡ [] → words xs ≡ []
+no_words xs ys e n = subst (HasFirst (words xs)) (sym e ∙ n) (has_first xs)
+
+first_of_words : (xs ys : List ℕ) → ys ≡ past is_blank_char xs → ys ≢ [] → words xs ≡ take (position_or_len is_blank_char ys) ys ∷ words (drop (position_or_len is_blank_char ys) ys)
+first_of_words xs [] e some = absurd (some refl)
+first_of_words xs (y ∷ ys) e some = subst (HasFirst (words xs)) (sym e) (has_first xs)
 
 -- ---- bytes below 128
 
-pub ascii_take : (n : ℕ) (xs : List ℕ) → AreAscii xs → AreAscii (take n xs)
-ascii_take zero xs h = refl
-ascii_take (suc n) [] h = refl
-ascii_take (suc n) (x ∷ xs) h =
-    let parts = and_parts (nat_lt x 128) (list_all (λ b. nat_lt b 128) xs) h in
-    and_from (nat_lt x 128) (list_all (λ b. nat_lt b 128) (take n xs)) parts.0 (ascii_take n xs parts.1)
+ascii_take : (n : ℕ) (xs : List ℕ) → AreAscii xs → AreAscii (take n xs)
+ascii_take n xs h = list_all-from_AllPass (λ b. nat_lt b 128) (take n xs) (All-take (λ b. nat_lt b 128 ≡ true) n xs (AllPass-from_list_all (λ b. nat_lt b 128) xs h))
 
 pub ascii_drop : (n : ℕ) (xs : List ℕ) → AreAscii xs → AreAscii (drop n xs)
-ascii_drop zero xs h = h
-ascii_drop (suc n) [] h = refl
-ascii_drop (suc n) (x ∷ xs) h = ascii_drop n xs (and_parts (nat_lt x 128) (list_all (λ b. nat_lt b 128) xs) h).1
+ascii_drop n xs h = list_all-from_AllPass (λ b. nat_lt b 128) (drop n xs) (All-drop (λ b. nat_lt b 128 ≡ true) n xs (AllPass-from_list_all (λ b. nat_lt b 128) xs h))
 
 is_ascii : (bs : List ℕ) → AreAscii bs → IsAscii bs
 is_ascii [] h i = omega arith
@@ -140,23 +112,18 @@ pub record IsNumeral (w : Word) : Type 0 where
   pub few : length w ≤ 10
 
 pub number_parts : (w : Word) → is_number_word w ≡ true → IsNumeral w
-number_parts w h = by_zero (bytes_eq w (codes "0")) refl
-  where
-    by_zero : (t : Bool) → bytes_eq w (codes "0") ≡ t → IsNumeral w
-    by_zero true e =
-        let zero_is : w ≡ codes "0" = (bytes_eq-Decides w (codes "0")).0 e in
-        subst IsNumeral (sym zero_is) (record { digits = refl; some = omega arith; few = omega arith })
-    by_zero false e =
-        let rest : ((nat_le 1 (length w) && nat_le (length w) 10) && (all_ascii_digits w && not (get_or w 0 0 == 48))) ≡ true = rw e at h in
-        let parts = and_parts (nat_le 1 (length w) && nat_le (length w) 10) (all_ascii_digits w && not (get_or w 0 0 == 48)) rest in
-        let sizes = and_parts (nat_le 1 (length w)) (nat_le (length w) 10) parts.0 in
-        let some : nat_le 1 (length w) ≡ true = sizes.0 in
-        let few : nat_le (length w) 10 ≡ true = sizes.1 in
-        record {
-          digits = (and_parts (all_ascii_digits w) (not (get_or w 0 0 == 48)) parts.1).0;
-          some = grind (arith, nat_tests);
-          few = grind (arith, nat_tests);
-        }
+number_parts w h =
+    elim (or_cases (bytes_eq w (codes "0")) ((nat_le 1 (length w) && nat_le (length w) 10) && (all_ascii_digits w && not (get_or w 0 0 == 48))) h) [
+      | inl same ↦ subst IsNumeral (sym ((bytes_eq-Decides w (codes "0")).0 same)) (record { digits = refl; some = omega arith; few = omega arith })
+      | inr other ↦
+          let parts = and_parts (nat_le 1 (length w) && nat_le (length w) 10) (all_ascii_digits w && not (get_or w 0 0 == 48)) other in
+          let sizes = and_parts (nat_le 1 (length w)) (nat_le (length w) 10) parts.0 in
+          record {
+            digits = (and_parts (all_ascii_digits w) (not (get_or w 0 0 == 48)) parts.1).0;
+            some = leb-true 1 (length w) sizes.0;
+            few = leb-true (length w) 10 sizes.1;
+          }
+    ]
 
 -- ---- what is parted
 

@@ -1,6 +1,5 @@
 -- Of `Sent`: sessions on the scenario that bytes are, from its start.
-use Rattle.std.proofs.Common.{◌≡◌, ◌≢◌, ℕ, ◌+◌, List, [], length, Option, None, Some, Result, Ok, Err, IfErr, IsErrOf, IsErrAnd, ◌⊎◌, inl, inr, refl, ap, sym, subst, ◌∙◌}
-use Rattle.std.proofs.KnownBytes.{Consumes-nil}
+use Rattle.std.proofs.Common.{◌≡◌, ◌≢◌, ℕ, List, length, Option, None, Some, Result, Ok, Err, IfErr, IsErrOf, IsErrAnd, ap, sym, subst, ◌∙◌}
 use Rattle.jc_rules.specs.declared.operation.Event.{Event}
 use Rattle.jc_rules.specs.declared.refusal.Refusal.{Refusal}
 use Rattle.jc_rules.specs.Refused.{Cause}
@@ -20,22 +19,21 @@ use Rattle.jc_debug.specs.Invariant.{Seen, start_of}
 use Rattle.jc_debug.proofs.RepliesLemmas.{begun_at}
 use Rattle.jc_session.specs.Answers.{Origin, origin_of, IsRefusalAt, IsFaultLine}
 use Rattle.jc_session.specs.declared.sessions.SessionFault.{SessionFault}
-use Rattle.jc_session.specs.declared.sessions.SessionFault.TheVariants.{ReadFailed, WriteFailed, TooManyLines, Memory}
+use Rattle.jc_session.specs.declared.sessions.SessionFault.TheVariants.{Memory}
 use Rattle.jc_session.specs.AnswerOf.{origin_in}
 use Rattle.jc_session.specs.SessionText.{End, text_refused, given_stuck, Talks, ShowsSession, refused, stuck, talks}
-use Rattle.jc_session.specs.Sent.{OfLines, OfLinesLeft, LosesFront, StopsAt, WentWhole, IsPast, AnsweredAll, ShowsAll, WentRefused, WentGiven, OnScenario}
+use Rattle.jc_session.specs.Sent.{OfLines, OfLinesLeft, StopsAt, WentWhole, IsPast, AnsweredAll, ShowsAll, WentRefused, WentGiven, OnScenario}
 use Rattle.jc_io.specs.Written.{Stream, Wrote, Interrupted, Written}
 use Rattle.jc_session.proofs.AnswerOfLemmas.{of_all}
-use Rattle.jc_session.proofs.FaultLinesLemmas.{not_memory}
-use Rattle.jc_io.proofs.WrittenLemmas.{one_failure}
+use Rattle.jc_session.proofs.TextFaultsLemmas.{not_memory}
 
 pub origin_is : (d : Seen) (s : Scenario) → IsStarted s d.net → origin_in d ≡ origin_of s (start_of d)
 origin_is d s h = let names = h.names in λ i. record { names = names i; start = start_of d }
 
--- the line that was made for its refusal and its place is the fault's
-pub fault_told : (fault : ScenarioFault) (refusal : Option Refusal) (place : Option ℕ) (text : List ℕ) → refusal ≡ fault_refusal fault → place ≡ fault_offset fault → IsRefusalAt refusal place text → IsFaultLine fault text
-fault_told fault refusal place text which at h =
-    subst (λ (x : Option Refusal). IsRefusalAt x (fault_offset fault) text) which (subst (λ (x : Option ℕ). IsRefusalAt refusal x text) at h)
+-- the line that was made for its refusal and its place, and was sent, is the fault's
+pub fault_told : (fault : ScenarioFault) (refusal : Option Refusal) (place : Option ℕ) (text sent : List ℕ) → refusal ≡ fault_refusal fault → place ≡ fault_offset fault → sent ≡ text → IsRefusalAt refusal place text → IsFaultLine fault sent
+fault_told fault refusal place text sent which at same h =
+    record { refusal = h.refusal; place = h.place; is_refusal = sym which ∙ h.is_refusal; is_place = sym at ∙ h.is_place; written = same ∙ h.written }
 
 pub text_refused_shown : (b : List ℕ) (f fault : ScenarioFault) (o p : Stream) → (f ≢ S.Memory → IsFault b f) → Written (IsFaultLine f) o p → f ≡ fault → (l : List ℕ) → ShowsAll b l (text_refused fault) o p
 text_refused_shown b f fault o p is h same l = subst (λ (x : ScenarioFault). ShowsAll b l (text_refused x) o p) same (h.0, refused f (is (not_memory f h.0 h.1)) h.1, h.2)
@@ -54,9 +52,9 @@ given_named s names at t formed same g = record {
   named = subst (λ (ns : List (List ℕ)). AreNamed g.event (length ns)) (sym same) (of_all (λ e. AreNamed e (length s.names)) s.given g.stuck.before g.event formed.given_known g.stuck.is);
 }
 
--- the text that it has is that of the event and the cause of the fault
-pub given_is : (s : Scenario) (names : List (List ℕ)) (at : ℕ) (t : Stuck) (text : List ℕ) → names ≡ s.names → (g : IsGivenFault (before_given s) s.given at t) → ((why : Cause) (event : Event) → t ≡ stuck_for why event → text ≡ given_text names at why event) → text ≡ given_text s.names at g.why g.event
-given_is s names at t text same g h = h g.why g.event g.is ∙ ap (λ (ns : List (List ℕ)). given_text ns at g.why g.event) same
+-- the text that was sent is that of the event and the cause of the fault
+pub given_is : (s : Scenario) (names : List (List ℕ)) (at : ℕ) (t : Stuck) (text sent : List ℕ) → sent ≡ text → names ≡ s.names → (g : IsGivenFault (before_given s) s.given at t) → ((why : Cause) (event : Event) → t ≡ stuck_for why event → text ≡ given_text names at why event) → sent ≡ given_text s.names at g.why g.event
+given_is s names at t text sent is same g h = is ∙ h g.why g.event g.is ∙ ap (λ (ns : List (List ℕ)). given_text ns at g.why g.event) same
 
 pub given_shown : (b : List ℕ) (s : Scenario) (at : ℕ) (t : Stuck) (text : List ℕ) (o p : Stream) → IsScenario b s → (g : IsGivenFault (before_given s) s.given at t) → text ≡ given_text s.names at g.why g.event → Wrote text o p → (l : List ℕ) → ShowsAll b l given_stuck o p
 given_shown b s at t text o p is g same went l =
@@ -82,48 +80,22 @@ pub stops_as : {T : Type 0} (fault x : SessionFault) (O : Origin) (A : Session) 
 stops_as fault x O A first left o p is h =
     let same : fault ≡ x = cc in subst (λ (f : SessionFault). OfLinesLeft first left (λ l rest. StopsAt f O A l rest o p)) same h
 
-some_left : (first left : Option (List ℕ)) (Says : List ℕ → Option (List ℕ) → Type 0) → OfLinesLeft first left Says → (l : List ℕ) × (rest : Option (List ℕ)) × Says l rest
-some_left None left Says h = (h.0, Some h.1, h.2)
-some_left (Some l) left Says h = (l, left, h)
-
-failures_at : (fault : SessionFault) (O : Origin) (A : Session) (l : List ℕ) (rest : Option (List ℕ)) (o p : Stream) → StopsAt fault O A l rest o p → (fault ≡ WriteFailed → p.failures ≡ o.failures + 1) × ((fault ≡ WriteFailed → ⊥) → p.failures ≡ o.failures)
-failures_at ReadFailed O A l rest o p h = (λ e. cc, λ none. h.went.1)
-failures_at WriteFailed O A l rest o p h =
-    (λ e. let b = h.breaks_off in one_failure h.between p b.1 b.3 ∙ ap (λ n. n + 1) h.went.1, λ none. absurd (none refl))
-failures_at TooManyLines O A l rest o p h = (λ e. cc, λ none. h.0.2.1)
-failures_at Memory O A l rest o p h = (λ e. cc, λ none. h.went.1)
-
--- ---- failed writes
-
-abbrev pub FailsOnce : {T : Type 0} → Result T SessionFault → ℕ → ℕ → Type 0
-FailsOnce result a b = (IsErrOf result WriteFailed → b ≡ a + 1) × ((IsErrOf result WriteFailed → ⊥) → b ≡ a)
-
-pub none_failed : {T : Type 0} (x : T) (a b : ℕ) → b ≡ a → FailsOnce (Ok x) a b
-none_failed x a b same = (λ k. absurd cc, λ none. same)
-
-pub one_failed : {T : Type 0} (a b : ℕ) → b ≡ a + 1 → FailsOnce {T = T} (Err WriteFailed) a b
-one_failed a b once = (λ k. once, λ none. absurd (none refl))
-
-pub stopped_once : {T : Type 0} (fault : SessionFault) (O : Origin) (A : Session) (first left : Option (List ℕ)) (o p : Stream) → OfLinesLeft first left (λ l rest. StopsAt fault O A l rest o p) → FailsOnce {T = T} (Err fault) o.failures p.failures
-stopped_once fault O A first left o p h =
-    let w = some_left first left (λ l rest. StopsAt fault O A l rest o p) h in
-    let f = failures_at fault O A w.0 w.1 o p w.2 in
-    (λ k. f.0 cc, λ none. f.1 (λ e. none (ap Err e)))
-
-pub finished_unfailed : (O : Origin) (A : Session) (first : Option (List ℕ)) (end : End) (o p : Stream) → OfLines first (λ l. AnsweredAll O A l end o p) → p.failures ≡ o.failures
-finished_unfailed O A None end o p h = h.1.2.1
-finished_unfailed O A (Some l) end o p h = h.2.1
-
 -- ---- from the start
 
 pub on_scenario : (Says : Origin → Session → Type 0) (b : List ℕ) (s : Scenario) (d : Seen) (A : Session) → IsScenario b s → IsStarted s d.net → A ≡ new_session s.schedule → Says (origin_in d) A → OnScenario b Says
 on_scenario Says b s d A is net at h =
     (s, start_of d, is, begun_at d s net, subst (λ (B : Session). Says (origin_of s (start_of d)) B) at (subst (λ (P : Origin). Says P A) (origin_is d s net) h))
 
+-- a fault of the session that stopped it
+pub stopped_on : {T : Type 0} (fault x : SessionFault) (b : List ℕ) (s : Scenario) (d : Seen) (A : Session) (first left : Option (List ℕ)) (o p : Stream) → IsErrOf {T = T} (Err fault) x → IsScenario b s → IsStarted s d.net → A ≡ new_session s.schedule → OfLinesLeft first left (λ l rest. StopsAt fault (origin_in d) A l rest o p)
+    → OnScenario b (λ O B. OfLinesLeft first left (λ l rest. StopsAt x O B l rest o p))
+stopped_on {T} fault x b s d A first left o p is scenario net at h =
+    on_scenario (λ O B. OfLinesLeft first left (λ l rest. StopsAt x O B l rest o p)) b s d A scenario net at (stops_as {T = T} fault x (origin_in d) A first left o p is h)
+
 shown : (b : List ℕ) (s : Scenario) (d : Seen) (A : Session) (l : List ℕ) (end : End) (o p : Stream) → IsScenario b s → IsStarted s d.net → A ≡ new_session s.schedule → AnsweredAll (origin_in d) A l end o p → ShowsAll b l end o p
 shown b s d A l end o p is net at h =
-    let on = subst (λ (B : Session). Talks (origin_of s (start_of d)) B l h.0 end) at (subst (λ (P : Origin). Talks P A l h.0 end) (origin_is d s net) h.1) in
-    (h.0, talks s (start_of d) is (begun_at d s net) on, h.2)
+    let on = on_scenario (λ O B. Talks O B l h.0 end) b s d A is net at h.1 in
+    (h.0, talks on.0 on.1 on.2 on.3 on.4, h.2)
 
 pub shown_by : (b : List ℕ) (s : Scenario) (d : Seen) (A : Session) (first : Option (List ℕ)) (end : End) (o p : Stream) → IsScenario b s → IsStarted s d.net → A ≡ new_session s.schedule → OfLines first (λ l. AnsweredAll (origin_in d) A l end o p) → OfLines first (λ l. ShowsAll b l end o p)
 shown_by b s d A None end o p is net at h = (h.0, shown b s d A h.0 end o p is net at h.1)
@@ -134,16 +106,3 @@ pub shown_past : (b : List ℕ) (s : Scenario) (d : Seen) (A : Session) (first l
     → OfLinesLeft first left (λ l now_left. AnsweredAll (origin_in d) A l end o p × IsPast l now_left) → OfLinesLeft first left (λ l now_left. ShowsAll b l end o p × IsPast l now_left)
 shown_past b s d A None left end o p is net at h = (h.0, h.1, (shown b s d A h.0 end o p is net at h.2.0, h.2.1))
 shown_past b s d A (Some l) left end o p is net at h = (shown b s d A l end o p is net at h.0, h.1)
-
--- ---- what is left
-
-pub none_lost : (o : Option (List ℕ)) → LosesFront o o
-none_lost o = ([], Consumes-nil o)
-
-pub left_after_ok : {T U E : Type 0} (x : T) (y : U) (e : E) (L : Type 0) → IsErrOf {T = T} (Ok x) e ⊎ L → IsErrOf {T = U} (Ok y) e ⊎ L
-left_after_ok x y e L (inl h) = absurd cc
-left_after_ok x y e L (inr l) = inr l
-
-pub left_after_err : {T U E : Type 0} (f e : E) (L : Type 0) → IsErrOf {T = T} (Err f) e ⊎ L → IsErrOf {T = U} (Err f) e ⊎ L
-left_after_err f e L (inl h) = inl (let same : f ≡ e = cc in ap Err same)
-left_after_err f e L (inr l) = inr l

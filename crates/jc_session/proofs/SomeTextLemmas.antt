@@ -1,5 +1,5 @@
 -- Of `Laws`: the bytes of a scenario and of lines have a text, whatever they are.
-use Rattle.std.proofs.Common.{◌≡◌, ◌⊎◌, inl, inr, ℕ, List, [], ◌∷◌, ◌++◌, length, take, map, nat_le, ◌&&◌, if◌then◌else◌, refl, ap, ◌∙◌, arith}
+use Rattle.std.proofs.Common.{◌≡◌, ◌⊎◌, inl, inr, ℕ, List, [], ◌∷◌, ◌++◌, take, refl, ap, ◌∙◌, arith}
 use Rattle.jc_rules.specs.declared.refusal.Refusal.TheVariants as F
 use Rattle.jc_rules.specs.Step.{Network}
 use Rattle.jc_network.specs.Given.{before_given, IsStart, LedOrStuck}
@@ -10,25 +10,19 @@ use Rattle.jc_scenario.specs.WellFormed.{Scenario, IsWellFormedScenario}
 use Rattle.jc_session.specs.Answers as N
 use Rattle.jc_session.specs.Answers.{origin_of, LineAnswer}
 use Rattle.jc_session.specs.Laws.{SessionHasAText}
-use Rattle.jc_session.specs.Lines.{Line, whole_line, last_line}
+use Rattle.jc_session.specs.Lines.{Line}
 use Rattle.jc_session.specs.Requests as Q
 use Rattle.jc_session.specs.Requests.{Request, Meaning, nothing, asks, bad, meaning}
-use Rattle.jc_session.specs.SessionText.{AnswersLines, End, finished, too_many, text_refused, given_stuck, Ends, at_the_end, at_quit, AreWithin, Talks, refused, stuck, talks}
+use Rattle.jc_session.specs.SessionText.{AnswersLines, End, finished, text_refused, given_stuck, Ends, at_the_end, at_quit, AreWithin, Talks, refused, stuck, talks}
 use Rattle.jc_session.specs.Texts.{refusal_line, reply_text}
-use Rattle.jc_session.proofs.LinesDueLemmas.{lines_of}
+use Rattle.jc_session.proofs.LinesDueLemmas.{lines_of, within}
 use Rattle.jc_session.proofs.TextFaultsLemmas.{fault_line, fault_told}
 use Rattle.jc_session.proofs.SomeReplyLemmas.{ReplyLaws, IsGood, Replied, some_reply}
 
 -- ---- the lines that are due
 
 some_within : (m k : ℕ) (bytes : List ℕ) → (lines : List Line) × (end : End) × AreWithin m k bytes lines end
-some_within m k bytes =
-    let (whole, last, parts) = lines_of (take m bytes) in
-    let all : List Line = if nat_le (length bytes) m then map whole_line whole ++ last_line last else map whole_line whole in (
-      take k all,
-      if nat_le (length bytes) m && nat_le (length all) k then finished else too_many,
-      record { whole = whole; last = last; parts = parts; all = all; all_are = refl; lines_are = refl; end_is = refl },
-    )
+some_within m k bytes = let (whole, last, parts) = lines_of (take m bytes) in (_, _, within m k bytes whole last parts)
 
 -- ---- answers
 
@@ -36,15 +30,6 @@ some_within m k bytes =
 data Turn (s : Scenario) (start : Network) (A : Session) (x : Line) : Type 0 where
   quits : meaning x ≡ asks Q.quit → Turn s start A x
   goes_on : (M : Session) (text : List ℕ) → IsGood start M → LineAnswer (origin_of s start) A x M text → Turn s start A x
-
--- the lines that are due are answered, up to a `quit` if there is one
-record Talked (s : Scenario) (start : Network) (A : Session) (due : List Line) (due_end : End) : Type 0 where
-  lines : List Line
-  end : End
-  ends : Ends lines end due due_end
-  last : Session
-  text : List ℕ
-  answers : AnswersLines (origin_of s start) A lines last text
 
 ends_more : (x : Line) (lines due : List Line) (end due_end : End) → Ends lines end due due_end → Ends (x ∷ lines) end (x ∷ due) due_end
 ends_more x lines due end due_end at_the_end = at_the_end
@@ -63,21 +48,16 @@ module _ (laws : ReplyLaws) (s : Scenario) (start : Network) (begins : IsStart s
       by_meaning bad e = goes_on A (refusal_line F.BadLine) good (N.refused e)
       by_meaning (asks q) e = by_reply q e (some_reply laws s start begins formed A good q)
 
-  talked : (due : List Line) (due_end : End) (A : Session) → IsGood start A → Talked s start A due due_end
-  talked [] due_end A good = record { lines = []; end = due_end; ends = at_the_end; last = A; text = []; answers = (refl, refl) }
+  -- the lines that are due are answered, up to a `quit` if there is one
+  talked : (due : List Line) (due_end : End) (A : Session) → IsGood start A
+      → (text : List ℕ) × (end : End) × (lines : List Line) × (last : Session) × Ends lines end due due_end × AnswersLines (origin_of s start) A lines last text
+  talked [] due_end A good = ([], due_end, [], A, at_the_end, (refl, refl))
   talked (x ∷ due) due_end A good =
       elim (turn A good x) [
-        | quits q ↦ record { lines = []; end = finished; ends = at_quit x due refl q; last = A; text = []; answers = (refl, refl) }
+        | quits q ↦ ([], finished, [], A, at_quit x due refl q, (refl, refl))
         | goes_on M text next answer ↦
-            let rest = talked due due_end M next in
-            record {
-              lines = x ∷ rest.lines;
-              end = rest.end;
-              ends = ends_more x rest.lines due rest.end due_end rest.ends;
-              last = rest.last;
-              text = text ++ rest.text;
-              answers = (M, text, rest.text, answer, rest.answers, refl);
-            }
+            let (more, end, lines, last, ends, answers) = talked due due_end M next in
+            (text ++ more, end, x ∷ lines, last, ends_more x lines due end due_end ends, (M, text, more, answer, answers, refl))
       ]
 
   -- at the start of the schedule
@@ -87,8 +67,8 @@ module _ (laws : ReplyLaws) (s : Scenario) (start : Network) (begins : IsStart s
   some_talk : (bytes : List ℕ) → (text : List ℕ) × (end : End) × Talks (origin_of s start) (new_session s.schedule) bytes text end
   some_talk bytes =
       let (due, due_end, are_due) = some_within 67108864 1000000 bytes in
-      let t = talked due due_end (new_session s.schedule) good_start in
-      (t.text, t.end, record { due = due; due_end = due_end; are_due = are_due; lines = t.lines; ends = t.ends; last = t.last; answers = t.answers })
+      let (text, end, lines, last, ends, answers) = talked due due_end (new_session s.schedule) good_start in
+      (text, end, record { due = due; due_end = due_end; are_due = are_due; lines = lines; ends = ends; last = last; answers = answers })
 
 pub session_has_a_text : ReplyLaws → ScenarioElseFault → ScenariosAreWellFormed → LedOrStuck → SessionHasAText
 session_has_a_text laws either formed led b l =

@@ -20,8 +20,7 @@ numbered_push names n (x ∷ es) e =
 
 pub numbered_more : (names : List (List ℕ)) (es : List Event) (i : ℕ) (d : Event) → i < length es → numbered_lines names 1 (take (i + 1) es) ≡ numbered_lines names 1 (take i es) ++ numbered_line names (i + 1) (get_or es i d)
 numbered_more names es i d lt =
-    let size = length-take-le i es (omega (arith, lt)) in
-    let same : 1 + length (take i es) ≡ i + 1 = omega (arith, size) in
+    let same : 1 + length (take i es) ≡ i + 1 = omega (arith, length-take-le i es (omega (arith, lt))) in
     ap (numbered_lines names 1) (take_more es i d lt) ∙ numbered_push names 1 (take i es) (get_or es i d) ∙ ap (λ k. numbered_lines names 1 (take i es) ++ numbered_line names k (get_or es i d)) same
 
 -- ---- dumps

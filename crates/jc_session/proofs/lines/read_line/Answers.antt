@@ -6,16 +6,14 @@ use Rattle.jc_session.proofs.lines.read_line.Goals as goal
 pub returns-then-room-eq0-clause-too_many : goal.returns-then-room-eq0-clause-too_many
 returns-then-room-eq0-clause-too_many g c =
     let r = c.bytes.invariant.reading in
-    let m = r.room_is in
     let byte = c.in-Some.byte in
-    λ _. (r.raw, byte, r.no_lf, Consumes-trans _ _ _ r.raw (byte ∷ []) r.gone (c.in_ok-byte.ensures.some byte (ap Ok c.in-Some.is)), omega (arith, m))
+    λ _. (r.raw, byte, r.no_lf, Consumes-trans _ _ _ r.raw (byte ∷ []) r.gone (c.in_ok-byte.ensures.some byte (ap Ok c.in-Some.is)), omega (arith, r.room_is))
 
 pub returns-then-byte-eq10-clause-whole : goal.returns-then-byte-eq10-clause-whole
 returns-then-byte-eq10-clause-whole g c =
     let r = c.bytes.invariant.reading in
-    let m = r.room_is in
     let byte = c.in-Some.byte in
-    λ _. (r.raw, r.no_lf, to_lf _ _ _ r.raw byte r.gone (c.in_ok-byte.ensures.some byte (ap Ok c.in-Some.is)) c.if-byte-eq10.true, r.kept_is, omega (arith, m))
+    λ _. (r.raw, r.no_lf, to_lf _ _ _ r.raw byte r.gone (c.in_ok-byte.ensures.some byte (ap Ok c.in-Some.is)) c.if-byte-eq10.true, r.kept_is, omega (arith, r.room_is))
 
 pub bytes-preserved : goal.bytes-preserved
 bytes-preserved g c =

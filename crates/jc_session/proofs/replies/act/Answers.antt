@@ -1,11 +1,8 @@
-use Rattle.std.proofs.Common.{length, ap, subst, arith}
+use Rattle.std.proofs.Common.{subst}
 use Rattle.jc_session.specs.declared.replies.Spelling.{Spelling}
 use Rattle.jc_session.specs.AnswerOf.{Spells}
 use Rattle.jc_session.proofs.AnswerOfLemmas.{act_full, act_stuck, reply_act, reply_misspelled, spelled_in}
 use Rattle.jc_session.proofs.replies.act.Goals as goal
-
-pub event_of-requires : goal.event_of-requires
-event_of-requires c = let n = ap length c.names.ensures.names in let few = c.names.ensures.few in omega (arith, n, few)
 
 pub returns-in-Refused : goal.returns-in-Refused
 returns-in-Refused c =

@@ -1,12 +1,6 @@
-use Rattle.std.proofs.Common.{length, ap, arith, inl, inr}
+use Rattle.std.proofs.Common.{inl, inr}
 use Rattle.jc_session.proofs.AnswerOfLemmas.{reply_no_compare, reply_compare}
 use Rattle.jc_session.proofs.replies.comparison.Goals as goal
-
-pub number_of-requires : goal.number_of-requires
-number_of-requires c = let n = ap length c.names-names.ensures.names in let few = c.names-names.ensures.few in omega (arith, n, few)
-
-pub number_of-requires-2 : goal.number_of-requires-2
-number_of-requires-2 c = let n = ap length c.names-names.ensures.names in let few = c.names-names.ensures.few in omega (arith, n, few)
 
 pub returns-in_default : goal.returns-in_default
 returns-in_default c = reply_no_compare c.args.debugger.now c.net-net.result.now c.names-names.result.now c.args.name.now c.args.other.now c.net-net.ensures.net c.names-names.ensures.names (inl c.in_default.ensures.none)

@@ -1,9 +1,6 @@
 use Rattle.std.proofs.Common.{sym, ◌∙◌}
-use Rattle.jc_session.proofs.FaultLinesLemmas.{misspelled}
+use Rattle.jc_session.proofs.TextFaultsLemmas.{misspelled}
 use Rattle.jc_session.proofs.replies.event_of.Goals as goal
-
-pub returns-in-Ok : goal.returns-in-Ok
-returns-in-Ok c = c.resolved.ensures c.args.version c.args.rest.now c.in-Ok.ensures.tree
 
 pub returns-in-Some-Some : goal.returns-in-Some-Some
 returns-in-Some-Some c =

@@ -1,4 +1,4 @@
-use Rattle.jc_session.proofs.AnswerOfLemmas.{reply_run, run_past, run_not_stuck}
+use Rattle.jc_session.proofs.AnswerOfLemmas.{reply_run, run_past}
 use Rattle.jc_session.proofs.replies.run.Goals as goal
 
 pub returns-in-Ok : goal.returns-in-Ok
@@ -10,8 +10,3 @@ pub returns-in-Err-Refused : goal.returns-in-Err-Refused
 returns-in-Err-Refused c =
     let w = c.in-Err-Refused in
     run_past c.args.debugger.now c.run.new.self w.field-0 w.refusal w.field-0-is w.ensures.end w.ensures.err
-
-pub unreachable-requires : goal.unreachable-requires
-unreachable-requires c =
-    let w = c.in-Err-Stuck in
-    run_not_stuck c.args.debugger.now c.run.new.self w.field-0 w.field-0-0 w.field-0-is w.ensures.err

@@ -1,9 +1,5 @@
-use Rattle.std.proofs.Common.{length, ap, arith}
 use Rattle.jc_session.proofs.AnswerOfLemmas.{reply_no_state, reply_state_of}
 use Rattle.jc_session.proofs.replies.state_of.Goals as goal
-
-pub number_of-requires : goal.number_of-requires
-number_of-requires c = let n = ap length c.names.ensures.names in let few = c.names.ensures.few in omega (arith, n, few)
 
 pub returns-in-Some : goal.returns-in-Some
 returns-in-Some c = reply_state_of c.args.debugger.now c.net.result.now c.names.result.now c.args.name.now c.in-Some.p c.net.ensures.net c.names.ensures.names c.net.ensures.is_at c.names.ensures.each c.in-Some.ensures.some

@@ -22,10 +22,7 @@ returns-then-is_number c =
     let is : is_number_word w ≡ true = search rules in
     let parts = number_parts w is in
     let some = parts.some in
-    let few = digits_value_short own w 10 parts.digits parts.few in
     let read : ParsesUnsigned 64 10 w c.parse.result = subst (λ (bs : List ℕ). ParsesUnsigned 64 10 bs c.parse.result) c.ascii_text.ensures c.parse.ensures.value.0 in
-    let ok = parse_gives own 64 w c.parse.result read parts.digits some (omega (arith, few)) in
-    c.ok.ensures.value ∙ ap result_ok ok ∙ numeral w is
-  where
-    numeral : (w : List ℕ) → is_number_word w ≡ true → Some (digits_value 10 w) ≡ number_of w
-    numeral w e = rw e refl
+    let ok = parse_gives own 64 w c.parse.result read parts.digits some (omega (arith, digits_value_short own w 10 parts.digits parts.few)) in
+    let number : Some (digits_value 10 w) ≡ number_of w = rw is refl in
+    c.ok.ensures.value ∙ ap result_ok ok ∙ number

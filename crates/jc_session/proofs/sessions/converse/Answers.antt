@@ -1,19 +1,14 @@
-use Rattle.std.proofs.Common.{◌∙◌, ◌≡◌, [], ◌∷◌, ◌++◌, Ok, inl, inr, ap, refl, subst, List, ℕ, string_bytes, arith}
+use Rattle.std.proofs.Common.{◌∙◌, [], ◌∷◌, ◌++◌, Ok, inl, inr, ap, refl, arith}
 use Rattle.std.specs.Io.KnownBytes.{prepend_known}
-use Rattle.jc_io.specs.Written.{sink, Wrote, Interrupted}
+use Rattle.jc_io.specs.Written.{sink}
 use Rattle.jc_debug.specs.Invariant.{session_of}
+use Rattle.jc_session.specs.Lines.{without_cr}
 use Rattle.jc_session.specs.Views.{line_of_bytes}
 use Rattle.jc_session.specs.AnswerOf.{origin_in}
 use Rattle.jc_session.proofs.EventNamesLemmas.{answer_named}
-use Rattle.jc_session.proofs.SessionTextLemmas.{from_origin, all_named, is_kept, line_whole, line_last, so_far_more, at_end, at_last, at_quit_line, at_limit, next_whole, next_last, loses_front, went_whole, went_to_read, went_front}
+use Rattle.jc_session.proofs.SessionTextLemmas.{goes_on, breaks_off, line_is, line_last, so_far_more, at_end, at_last, at_quit_line, at_limit, next_whole, next_last, loses_front, went_whole, went_to_read, went_front}
 use Rattle.jc_session.proofs.SentLemmas.{starved}
 use Rattle.jc_session.proofs.sessions.converse.Goals as goal
-
-pub answer-requires : goal.answer-requires
-answer-requires g c = all_named (origin_in c.args.debugger.now) (origin_in c.lines.debugger) c.lines.debugger.schedule c.lines.invariant.origin c.lines.invariant.named
-
-pub answer-requires-in-Ok-Last : goal.answer-requires-in-Ok-Last
-answer-requires-in-Ok-Last g c = all_named (origin_in c.args.debugger.now) (origin_in c.lines.debugger) c.lines.debugger.schedule c.lines.invariant.origin c.lines.invariant.named
 
 -- ---- a line that an LF ends
 
@@ -21,17 +16,14 @@ pub lines-preserved : goal.lines-preserved
 lines-preserved g c =
     let inv = c.lines.invariant in
     let w = c.in-Ok-Whole.ensures.whole (ap Ok c.in-Ok-Whole.field-0-is) in
-    let line = line_whole w.0 c.next.new.self.line (is_kept 4096 w.0 c.next.new.self.line _ refl w.3) c.content.result c.content.ensures in
+    let line = line_is without_cr w.0 c.next.new.self.line w.3 c.content.result c.content.ensures in
     let gives = rw c.in-Some.is at c.in_ok-text-in-Ok-Whole.ensures in
-    let same : c.as_bytes.result.now ≡ string_bytes c.in-Some.text = c.as_bytes.ensures.value ∙ c.as_str.ensures.value in
-    let went : Wrote (string_bytes c.in-Some.text) (sink g.K.Sink c.lines.out) (sink g.K.Sink c.write_flushed.new.out) = subst (λ (t : List ℕ). Wrote t (sink g.K.Sink c.lines.out) (sink g.K.Sink c.write_flushed.new.out)) same c.in-Ok.ensures.ok in
     let O = origin_in c.args.debugger.now in
-    let P = origin_in c.lines.debugger in
-    let answer = from_origin O P (session_of c.lines.debugger) (session_of c.answer.new.debugger) (line_of_bytes c.content.result) (string_bytes c.in-Some.text) inv.origin gives.answer in
+    let on = goes_on (sink g.K.Sink c.lines.out) (sink g.K.Sink c.write_flushed.new.out) inv.origin gives (c.as_bytes.ensures.value ∙ c.as_str.ensures.value) c.in-Ok.ensures.ok in
     record {
-      so_far = so_far_more O _ _ _ _ _ _ _ _ _ c.lines.lines.bytes c.lines.lines.count c.next.new.self.bytes c.next.new.self.count w.0 (line_of_bytes c.content.result) w.4 w.6 inv.so_far w.1 w.2 line (string_bytes c.in-Some.text, answer, went);
+      so_far = so_far_more O _ _ _ _ _ _ _ _ _ c.lines.lines.bytes c.lines.lines.count c.next.new.self.bytes c.next.new.self.count w.0 (line_of_bytes c.content.result) w.4 w.6 inv.so_far w.1 w.2 line on;
       origin = gives.origin ∙ inv.origin;
-      named = answer_named O (session_of c.lines.debugger) (session_of c.answer.new.debugger) (line_of_bytes c.content.result) (string_bytes c.in-Some.text) answer inv.named;
+      named = answer_named O (session_of c.lines.debugger) (session_of c.answer.new.debugger) (line_of_bytes c.content.result) on.0 on.1 inv.named;
       bytes = w.5;
       count = w.7;
       reads = omega (arith, c.in-Ok-Whole.ensures.failures, inv.reads);
@@ -41,47 +33,43 @@ pub returns-in_default-clause-finished : goal.returns-in_default-clause-finished
 returns-in_default-clause-finished g c =
     let inv = c.lines.invariant in
     let w = c.in-Ok-Whole.ensures.whole (ap Ok c.in-Ok-Whole.field-0-is) in
-    let line = line_whole w.0 c.next.new.self.line (is_kept 4096 w.0 c.next.new.self.line _ refl w.3) c.content.result c.content.ensures in
+    let line = line_is without_cr w.0 c.next.new.self.line w.3 c.content.result c.content.ensures in
     let quits = rw c.in_default.is at c.in_ok-text-in-Ok-Whole.ensures in
-    at_quit_line (origin_in c.args.debugger.now) _ _ _ _ _ _ _ _ c.lines.lines.bytes c.lines.lines.count w.0 (line_of_bytes c.content.result) (omega (arith, w.4, w.5)) (omega (arith, w.6, w.7)) inv.so_far w.1 w.2 line (quits, refl)
+    at_quit_line (g.S.Source.left c.next.new.source) inv.so_far inv.bytes inv.count w.0 c.next.new.self.ahead (line_of_bytes c.content.result) (omega (arith, w.4, w.5)) (omega (arith, w.6, w.7)) w.1 w.2 line quits
 
 pub returns-in_err-text-in-Ok-Whole-clause-stopped : goal.returns-in_err-text-in-Ok-Whole-clause-stopped
 returns-in_err-text-in-Ok-Whole-clause-stopped g c =
     let inv = c.lines.invariant in
     let w = c.in-Ok-Whole.ensures.whole (ap Ok c.in-Ok-Whole.field-0-is) in
-    let line = line_whole w.0 c.next.new.self.line (is_kept 4096 w.0 c.next.new.self.line _ refl w.3) c.content.result c.content.ensures in
+    let line = line_is without_cr w.0 c.next.new.self.line w.3 c.content.result c.content.ensures in
     let next = next_whole (prepend_known c.lines.lines.ahead (g.S.Source.left c.lines.source)) (g.S.Source.left c.next.new.source) w.0 c.next.new.self.ahead (line_of_bytes c.content.result) w.1 c.in-Ok-Whole.ensures.few w.2 line in
     starved (origin_in c.args.debugger.now) (session_of c.args.debugger.now) (g.S.Source.left c.args.source.now) (g.S.Source.left c.next.new.source) (sink g.K.Sink c.args.out.now) (sink g.K.Sink c.lines.out) c.from_residual.result c.from_residual.ensures.1
-    (went_whole (origin_in c.args.debugger.now) _ _ _ _ (g.S.Source.left c.next.new.source) _ _ _ c.lines.lines.bytes c.lines.lines.count (line_of_bytes c.content.result) inv.bytes inv.count inv.so_far next refl)
+    (went_whole (g.S.Source.left c.next.new.source) inv.so_far inv.bytes inv.count (line_of_bytes c.content.result) next)
 
 pub returns-in-Err-write_flushed-clause-stopped : goal.returns-in-Err-write_flushed-clause-stopped
 returns-in-Err-write_flushed-clause-stopped g c =
     let inv = c.lines.invariant in
     let w = c.in-Ok-Whole.ensures.whole (ap Ok c.in-Ok-Whole.field-0-is) in
-    let line = line_whole w.0 c.next.new.self.line (is_kept 4096 w.0 c.next.new.self.line _ refl w.3) c.content.result c.content.ensures in
+    let line = line_is without_cr w.0 c.next.new.self.line w.3 c.content.result c.content.ensures in
     let next = next_whole (prepend_known c.lines.lines.ahead (g.S.Source.left c.lines.source)) (g.S.Source.left c.next.new.source) w.0 c.next.new.self.ahead (line_of_bytes c.content.result) w.1 c.in-Ok-Whole.ensures.few w.2 line in
     let gives = rw c.in-Some.is at c.in_ok-text-in-Ok-Whole.ensures in
-    let same : c.as_bytes.result.now ≡ string_bytes c.in-Some.text = c.as_bytes.ensures.value ∙ c.as_str.ensures.value in
-    let went : Interrupted (string_bytes c.in-Some.text) (sink g.K.Sink c.lines.out) (sink g.K.Sink c.write_flushed.new.out) = subst (λ (t : List ℕ). Interrupted t (sink g.K.Sink c.lines.out) (sink g.K.Sink c.write_flushed.new.out)) same c.in-Err-write_flushed.ensures.err in
-    let O = origin_in c.args.debugger.now in
-    let P = origin_in c.lines.debugger in
-    let answer = from_origin O P (session_of c.lines.debugger) (session_of c.answer.new.debugger) (line_of_bytes c.content.result) (string_bytes c.in-Some.text) inv.origin gives.answer in
-    went_front O _ _ _ _ (g.S.Source.left c.next.new.source) _ _ _ c.lines.lines.bytes c.lines.lines.count (line_of_bytes c.content.result) inv.bytes inv.count inv.so_far next (session_of c.answer.new.debugger, string_bytes c.in-Some.text, answer, went)
+    let off = breaks_off (sink g.K.Sink c.lines.out) (sink g.K.Sink c.write_flushed.new.out) inv.origin gives (c.as_bytes.ensures.value ∙ c.as_str.ensures.value) c.in-Err-write_flushed.ensures.err in
+    went_front (g.S.Source.left c.next.new.source) inv.so_far inv.bytes inv.count (sink g.K.Sink c.write_flushed.new.out) (line_of_bytes c.content.result) next off
 
 pub returns-in_err-text-in-Ok-Whole-clause-left : goal.returns-in_err-text-in-Ok-Whole-clause-left
 returns-in_err-text-in-Ok-Whole-clause-left g c =
     let w = c.in-Ok-Whole.ensures.whole (ap Ok c.in-Ok-Whole.field-0-is) in
-    inr (loses_front (origin_in c.args.debugger.now) _ _ _ _ _ _ _ _ (g.S.Source.left c.next.new.source) (w.0 ++ 10 ∷ []) c.next.new.self.ahead c.lines.invariant.so_far w.2)
+    inr (loses_front (g.S.Source.left c.next.new.source) (w.0 ++ 10 ∷ []) c.next.new.self.ahead c.lines.invariant.so_far w.2)
 
 pub returns-in_default-clause-left : goal.returns-in_default-clause-left
 returns-in_default-clause-left g c =
     let w = c.in-Ok-Whole.ensures.whole (ap Ok c.in-Ok-Whole.field-0-is) in
-    inr (loses_front (origin_in c.args.debugger.now) _ _ _ _ _ _ _ _ (g.S.Source.left c.next.new.source) (w.0 ++ 10 ∷ []) c.next.new.self.ahead c.lines.invariant.so_far w.2)
+    inr (loses_front (g.S.Source.left c.next.new.source) (w.0 ++ 10 ∷ []) c.next.new.self.ahead c.lines.invariant.so_far w.2)
 
 pub returns-in-Err-write_flushed-clause-left : goal.returns-in-Err-write_flushed-clause-left
 returns-in-Err-write_flushed-clause-left g c =
     let w = c.in-Ok-Whole.ensures.whole (ap Ok c.in-Ok-Whole.field-0-is) in
-    inr (loses_front (origin_in c.args.debugger.now) _ _ _ _ _ _ _ _ (g.S.Source.left c.next.new.source) (w.0 ++ 10 ∷ []) c.next.new.self.ahead c.lines.invariant.so_far w.2)
+    inr (loses_front (g.S.Source.left c.next.new.source) (w.0 ++ 10 ∷ []) c.next.new.self.ahead c.lines.invariant.so_far w.2)
 
 -- ---- a line that the end of the input ends
 
@@ -89,95 +77,83 @@ pub returns-in-Ok-write_flushed-clause-finished : goal.returns-in-Ok-write_flush
 returns-in-Ok-write_flushed-clause-finished g c =
     let inv = c.lines.invariant in
     let w = c.in-Ok-Last.ensures.last (ap Ok c.in-Ok-Last.field-0-is) in
-    let kept = is_kept 4096 w.0 c.next.new.self.line _ refl w.5 in
-    let line = line_last w.0 c.next.new.self.line w.2 kept c.content-in-Ok-Last.result c.content-in-Ok-Last.ensures in
+    let line = line_last w.0 c.next.new.self.line w.2 w.5 c.content-in-Ok-Last.result c.content-in-Ok-Last.ensures in
     let gives = rw c.in-Some-2.is at c.in_ok-text-in-Ok-Last.ensures in
-    let same : c.as_bytes-in-Ok-Last.result.now ≡ string_bytes c.in-Some-2.text = c.as_bytes-in-Ok-Last.ensures.value ∙ c.as_str-in-Ok-Last.ensures.value in
-    let went : Wrote (string_bytes c.in-Some-2.text) (sink g.K.Sink c.lines.out) (sink g.K.Sink c.write_flushed-in-Ok-Last.new.out) = subst (λ (t : List ℕ). Wrote t (sink g.K.Sink c.lines.out) (sink g.K.Sink c.write_flushed-in-Ok-Last.new.out)) same c.in-Ok-write_flushed.ensures.ok in
-    let O = origin_in c.args.debugger.now in
-    let P = origin_in c.lines.debugger in
-    let answer = from_origin O P (session_of c.lines.debugger) (session_of c.answer-in-Ok-Last.new.debugger) (line_of_bytes c.content-in-Ok-Last.result) (string_bytes c.in-Some-2.text) inv.origin gives.answer in
-    at_last O _ _ _ _ _ _ _ _ _ c.lines.lines.bytes c.lines.lines.count w.0 (line_of_bytes c.content-in-Ok-Last.result) w.6 (omega (arith, w.7)) inv.so_far w.1 w.3 w.4 line (inl (string_bytes c.in-Some-2.text, answer, went))
+    let on = goes_on (sink g.K.Sink c.lines.out) (sink g.K.Sink c.write_flushed-in-Ok-Last.new.out) inv.origin gives (c.as_bytes-in-Ok-Last.ensures.value ∙ c.as_str-in-Ok-Last.ensures.value) c.in-Ok-write_flushed.ensures.ok in
+    at_last (g.S.Source.left c.next.new.source) inv.so_far inv.bytes inv.count (session_of c.answer-in-Ok-Last.new.debugger) (sink g.K.Sink c.write_flushed-in-Ok-Last.new.out) w.0 c.next.new.self.ahead (line_of_bytes c.content-in-Ok-Last.result) w.6 (omega (arith, w.7)) w.1 w.3 w.4 line (inl on)
 
 pub returns-in_default-2-clause-finished : goal.returns-in_default-2-clause-finished
 returns-in_default-2-clause-finished g c =
     let inv = c.lines.invariant in
     let w = c.in-Ok-Last.ensures.last (ap Ok c.in-Ok-Last.field-0-is) in
-    let kept = is_kept 4096 w.0 c.next.new.self.line _ refl w.5 in
-    let line = line_last w.0 c.next.new.self.line w.2 kept c.content-in-Ok-Last.result c.content-in-Ok-Last.ensures in
+    let line = line_last w.0 c.next.new.self.line w.2 w.5 c.content-in-Ok-Last.result c.content-in-Ok-Last.ensures in
     let quits = rw c.in_default-2.is at c.in_ok-text-in-Ok-Last.ensures in
-    at_last (origin_in c.args.debugger.now) _ _ (session_of c.lines.debugger) _ _ _ _ (sink g.K.Sink c.lines.out) _ c.lines.lines.bytes c.lines.lines.count w.0 (line_of_bytes c.content-in-Ok-Last.result) w.6 (omega (arith, w.7)) inv.so_far w.1 w.3 w.4 line (inr (quits, refl))
+    at_last (g.S.Source.left c.next.new.source) inv.so_far inv.bytes inv.count (session_of c.lines.debugger) (sink g.K.Sink c.lines.out) w.0 c.next.new.self.ahead (line_of_bytes c.content-in-Ok-Last.result) w.6 (omega (arith, w.7)) w.1 w.3 w.4 line (inr (quits, refl))
 
 pub returns-in_err-text-in-Ok-Last-clause-stopped : goal.returns-in_err-text-in-Ok-Last-clause-stopped
 returns-in_err-text-in-Ok-Last-clause-stopped g c =
     let inv = c.lines.invariant in
     let w = c.in-Ok-Last.ensures.last (ap Ok c.in-Ok-Last.field-0-is) in
-    let kept = is_kept 4096 w.0 c.next.new.self.line _ refl w.5 in
-    let line = line_last w.0 c.next.new.self.line w.2 kept c.content-in-Ok-Last.result c.content-in-Ok-Last.ensures in
+    let line = line_last w.0 c.next.new.self.line w.2 w.5 c.content-in-Ok-Last.result c.content-in-Ok-Last.ensures in
     let next = next_last (prepend_known c.lines.lines.ahead (g.S.Source.left c.lines.source)) (g.S.Source.left c.next.new.source) w.0 c.next.new.self.ahead (line_of_bytes c.content-in-Ok-Last.result) w.1 w.3 w.4 line in
     starved (origin_in c.args.debugger.now) (session_of c.args.debugger.now) (g.S.Source.left c.args.source.now) (g.S.Source.left c.next.new.source) (sink g.K.Sink c.args.out.now) (sink g.K.Sink c.lines.out) c.from_residual-in_err-text-in-Ok-Last.result c.from_residual-in_err-text-in-Ok-Last.ensures.1
-    (went_whole (origin_in c.args.debugger.now) _ _ _ _ (g.S.Source.left c.next.new.source) _ _ _ c.lines.lines.bytes c.lines.lines.count (line_of_bytes c.content-in-Ok-Last.result) inv.bytes inv.count inv.so_far next refl)
+    (went_whole (g.S.Source.left c.next.new.source) inv.so_far inv.bytes inv.count (line_of_bytes c.content-in-Ok-Last.result) next)
 
 pub returns-in-Err-write_flushed-2-clause-stopped : goal.returns-in-Err-write_flushed-2-clause-stopped
 returns-in-Err-write_flushed-2-clause-stopped g c =
     let inv = c.lines.invariant in
     let w = c.in-Ok-Last.ensures.last (ap Ok c.in-Ok-Last.field-0-is) in
-    let kept = is_kept 4096 w.0 c.next.new.self.line _ refl w.5 in
-    let line = line_last w.0 c.next.new.self.line w.2 kept c.content-in-Ok-Last.result c.content-in-Ok-Last.ensures in
+    let line = line_last w.0 c.next.new.self.line w.2 w.5 c.content-in-Ok-Last.result c.content-in-Ok-Last.ensures in
     let next = next_last (prepend_known c.lines.lines.ahead (g.S.Source.left c.lines.source)) (g.S.Source.left c.next.new.source) w.0 c.next.new.self.ahead (line_of_bytes c.content-in-Ok-Last.result) w.1 w.3 w.4 line in
     let gives = rw c.in-Some-2.is at c.in_ok-text-in-Ok-Last.ensures in
-    let same : c.as_bytes-in-Ok-Last.result.now ≡ string_bytes c.in-Some-2.text = c.as_bytes-in-Ok-Last.ensures.value ∙ c.as_str-in-Ok-Last.ensures.value in
-    let went : Interrupted (string_bytes c.in-Some-2.text) (sink g.K.Sink c.lines.out) (sink g.K.Sink c.write_flushed-in-Ok-Last.new.out) = subst (λ (t : List ℕ). Interrupted t (sink g.K.Sink c.lines.out) (sink g.K.Sink c.write_flushed-in-Ok-Last.new.out)) same c.in-Err-write_flushed-2.ensures.err in
-    let O = origin_in c.args.debugger.now in
-    let P = origin_in c.lines.debugger in
-    let answer = from_origin O P (session_of c.lines.debugger) (session_of c.answer-in-Ok-Last.new.debugger) (line_of_bytes c.content-in-Ok-Last.result) (string_bytes c.in-Some-2.text) inv.origin gives.answer in
-    went_front O _ _ _ _ (g.S.Source.left c.next.new.source) _ _ _ c.lines.lines.bytes c.lines.lines.count (line_of_bytes c.content-in-Ok-Last.result) inv.bytes inv.count inv.so_far next (session_of c.answer-in-Ok-Last.new.debugger, string_bytes c.in-Some-2.text, answer, went)
+    let off = breaks_off (sink g.K.Sink c.lines.out) (sink g.K.Sink c.write_flushed-in-Ok-Last.new.out) inv.origin gives (c.as_bytes-in-Ok-Last.ensures.value ∙ c.as_str-in-Ok-Last.ensures.value) c.in-Err-write_flushed-2.ensures.err in
+    went_front (g.S.Source.left c.next.new.source) inv.so_far inv.bytes inv.count (sink g.K.Sink c.write_flushed-in-Ok-Last.new.out) (line_of_bytes c.content-in-Ok-Last.result) next off
 
 pub returns-in_err-text-in-Ok-Last-clause-left : goal.returns-in_err-text-in-Ok-Last-clause-left
 returns-in_err-text-in-Ok-Last-clause-left g c =
     let w = c.in-Ok-Last.ensures.last (ap Ok c.in-Ok-Last.field-0-is) in
-    inr (loses_front (origin_in c.args.debugger.now) _ _ _ _ _ _ _ _ (g.S.Source.left c.next.new.source) w.0 c.next.new.self.ahead c.lines.invariant.so_far w.3)
+    inr (loses_front (g.S.Source.left c.next.new.source) w.0 c.next.new.self.ahead c.lines.invariant.so_far w.3)
 
 pub returns-in_default-2-clause-left : goal.returns-in_default-2-clause-left
 returns-in_default-2-clause-left g c =
     let w = c.in-Ok-Last.ensures.last (ap Ok c.in-Ok-Last.field-0-is) in
-    inr (loses_front (origin_in c.args.debugger.now) _ _ _ _ _ _ _ _ (g.S.Source.left c.next.new.source) w.0 c.next.new.self.ahead c.lines.invariant.so_far w.3)
+    inr (loses_front (g.S.Source.left c.next.new.source) w.0 c.next.new.self.ahead c.lines.invariant.so_far w.3)
 
 pub returns-in-Ok-write_flushed-clause-left : goal.returns-in-Ok-write_flushed-clause-left
 returns-in-Ok-write_flushed-clause-left g c =
     let w = c.in-Ok-Last.ensures.last (ap Ok c.in-Ok-Last.field-0-is) in
-    inr (loses_front (origin_in c.args.debugger.now) _ _ _ _ _ _ _ _ (g.S.Source.left c.next.new.source) w.0 c.next.new.self.ahead c.lines.invariant.so_far w.3)
+    inr (loses_front (g.S.Source.left c.next.new.source) w.0 c.next.new.self.ahead c.lines.invariant.so_far w.3)
 
 pub returns-in-Err-write_flushed-2-clause-left : goal.returns-in-Err-write_flushed-2-clause-left
 returns-in-Err-write_flushed-2-clause-left g c =
     let w = c.in-Ok-Last.ensures.last (ap Ok c.in-Ok-Last.field-0-is) in
-    inr (loses_front (origin_in c.args.debugger.now) _ _ _ _ _ _ _ _ (g.S.Source.left c.next.new.source) w.0 c.next.new.self.ahead c.lines.invariant.so_far w.3)
+    inr (loses_front (g.S.Source.left c.next.new.source) w.0 c.next.new.self.ahead c.lines.invariant.so_far w.3)
 
 -- ---- no line
 
 pub returns-in-Ok-End-clause-finished : goal.returns-in-Ok-End-clause-finished
 returns-in-Ok-End-clause-finished g c =
     let inv = c.lines.invariant in
-    at_end (origin_in c.args.debugger.now) _ _ _ _ _ _ c.lines.lines.bytes c.lines.lines.count inv.bytes inv.count inv.so_far (c.in-Ok-End.ensures.end (ap Ok c.in-Ok-End.field-0-is)).0
+    at_end (g.S.Source.left c.next.new.source) inv.so_far inv.bytes inv.count (c.in-Ok-End.ensures.end (ap Ok c.in-Ok-End.field-0-is)).0
 
 pub returns-in-Ok-TooMany-clause-stopped : goal.returns-in-Ok-TooMany-clause-stopped
 returns-in-Ok-TooMany-clause-stopped g c =
     let inv = c.lines.invariant in
     let w = c.in-Ok-TooMany.ensures.too_many (ap Ok c.in-Ok-TooMany.field-0-is) in
-    at_limit (origin_in c.args.debugger.now) _ _ _ _ (g.S.Source.left c.next.new.source) _ _ c.lines.lines.bytes c.lines.lines.count w.0 c.next.new.self.ahead w.1 inv.bytes inv.count inv.so_far w.2 c.in-Ok-TooMany.ensures.few w.3 w.5
+    at_limit (g.S.Source.left c.next.new.source) inv.so_far inv.bytes inv.count w.0 c.next.new.self.ahead w.1 w.2 c.in-Ok-TooMany.ensures.few w.3 w.5
 
 pub returns-in-Err-clause-stopped : goal.returns-in-Err-clause-stopped
 returns-in-Err-clause-stopped g c =
     let inv = c.lines.invariant in
     let e = c.in-Err.ensures.err in
-    went_to_read (origin_in c.args.debugger.now) _ _ _ _ (g.S.Source.left c.next.new.source) _ _ c.lines.lines.bytes c.lines.lines.count e.0 inv.bytes inv.count inv.so_far e.1 e.4
+    went_to_read (g.S.Source.left c.next.new.source) inv.so_far inv.bytes inv.count e.0 e.1 e.4
 
 pub returns-in-Ok-End-clause-left : goal.returns-in-Ok-End-clause-left
 returns-in-Ok-End-clause-left g c =
     let w = c.in-Ok-End.ensures.end (ap Ok c.in-Ok-End.field-0-is) in
-    inr (loses_front (origin_in c.args.debugger.now) _ _ _ _ _ _ _ _ (g.S.Source.left c.next.new.source) [] c.next.new.self.ahead c.lines.invariant.so_far w.1)
+    inr (loses_front (g.S.Source.left c.next.new.source) [] c.next.new.self.ahead c.lines.invariant.so_far w.1)
 
 pub returns-in-Ok-TooMany-clause-left : goal.returns-in-Ok-TooMany-clause-left
 returns-in-Ok-TooMany-clause-left g c =
     let w = c.in-Ok-TooMany.ensures.too_many (ap Ok c.in-Ok-TooMany.field-0-is) in
-    inr (loses_front (origin_in c.args.debugger.now) _ _ _ _ _ _ _ _ (g.S.Source.left c.next.new.source) (w.0 ++ w.1 ∷ []) c.next.new.self.ahead c.lines.invariant.so_far w.3)
+    inr (loses_front (g.S.Source.left c.next.new.source) (w.0 ++ w.1 ∷ []) c.next.new.self.ahead c.lines.invariant.so_far w.3)
