@@ -18,19 +18,19 @@ use Rattle.jc_program.specs.Runs.{Stuck, status_of}
 use Rattle.jc_program.specs.SessionRuns.{session_status, ShowsTo}
 use Rattle.jc_program.specs.declared.fault.WorkFault.TheVariants.{Memory}
 use Rattle.jc_io.specs.Written.{Stream}
+use Rattle.jc_io.specs.declared.io.ReadFault.TheVariants as I
 use Rattle.jc_program.proofs.JournalsLemmas.{all_led, first_stuck}
-use Rattle.jc_program.proofs.ViewOutputLemmas.{nothing_shown}
+use Rattle.jc_program.proofs.FoundLemmas.{view_unread, recording_unread}
 use Rattle.jc_program.specs.WeaveRuns.{IsBySeed, HaveNoThreads}
-use Rattle.jc_program.proofs.SessionRunsLemmas.{without_memory}
-use Rattle.jc_program.proofs.ThreadRunsLemmas.{lacking}
+use Rattle.jc_program.proofs.SessionRunsLemmas.{unstarted}
 
 -- there was no memory for the arguments
 pub nothing_done : (task : Task) (told lines : Option (List ℕ)) (old new : Stream) → new ≡ old → IsStoppedCommand task Memory told lines lines old new
-nothing_done (Show view) told lines old new same = nothing_shown view told old new same
-nothing_done Debug told lines old new same = without_memory told lines lines old new refl same
+nothing_done (Show view) told lines old new same = view_unread view told old new I.Memory same
+nothing_done Debug told lines old new same = unstarted told lines lines old new I.Memory refl same
 nothing_done Serve told lines old new same = inl (refl, same)
 nothing_done (Threads limit) told lines old new same = (refl, same)
-nothing_done (Weave seed limit) told lines old new same = lacking (IsBySeed seed limit) HaveNoThreads told old new same
+nothing_done (Weave seed limit) told lines old new same = recording_unread (IsBySeed seed limit) HaveNoThreads told old new I.Memory same
 
 -- ---- sessions in which a given event is stuck
 
@@ -71,15 +71,15 @@ pub of_view : (view : View) (bytes shown : List ℕ) (status : ℕ) → Ran view
 of_view view bytes shown status (Err fault, is, h) = subst (IsEnd bytes) (sym h.ends) text_refused
 of_view Check bytes shown status (Ok s, is, h) = subst (IsEnd bytes) (sym h.1) well
 of_view Print bytes shown status (Ok s, is, h) = subst (IsEnd bytes) (sym h.1) well
-of_view (Run trace) bytes shown status (Ok s, is, inl h) = subst (IsEnd bytes) (sym h.ends) (of_run bytes (s, h.start, is, h.is_start) h.stuck)
-of_view (Run trace) bytes shown status (Ok s, is, inr h) = of_given bytes s shown status is h
-of_view (Document n) bytes shown status (Ok s, is, inl h) = subst (IsEnd bytes) (sym h.ends) (of_run bytes (s, h.start, is, h.is_start) h.stuck)
-of_view (Document n) bytes shown status (Ok s, is, inr h) = of_given bytes s shown status is h
 of_view (Journal trace effects) bytes shown status (Ok s, is, J.given_stuck last (event, why) h) =
     let first = first_stuck (record { rules = trace; effects = effects }) true s.names (before_given s) s.given last event why shown h in
     given_stuck (s, first.0, event, why, is, first.1)
 of_view (Journal trace effects) bytes shown status (Ok s, is, J.ran start last stuck first text given h out) =
     of_run bytes (s, start, is, all_led (record { rules = trace; effects = effects }) true s.names (before_given s) s.given start first given) stuck
+of_view (Run trace) bytes shown status (Ok s, is, inl h) = subst (IsEnd bytes) (sym h.ends) (of_run bytes (s, h.start, is, h.is_start) h.stuck)
+of_view (Run trace) bytes shown status (Ok s, is, inr h) = of_given bytes s shown status is h
+of_view (Document n) bytes shown status (Ok s, is, inl h) = subst (IsEnd bytes) (sym h.ends) (of_run bytes (s, h.start, is, h.is_start) h.stuck)
+of_view (Document n) bytes shown status (Ok s, is, inr h) = of_given bytes s shown status is h
 
 pub of_session : (bytes : List ℕ) (lines : Option (List ℕ)) (end : End) (a b : Stream) (status : ℕ) → session_status end ≡ Some status → ShowsTo bytes lines end a b → IsEnd bytes status
 of_session bytes lines S.finished a b status e h = subst (IsEnd bytes) (same_Some 0 status e) well

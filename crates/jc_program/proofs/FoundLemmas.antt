@@ -1,4 +1,4 @@
--- About Found: commands on what their file was read as. `scenario_in`, `execute` and those that call them use it.
+-- About Found: commands on what their file was read as. `scenario_in`, `carry_out` and `threads` use it.
 use Rattle.std.proofs.Common.{◌≡◌, ◌≢◌, ◌⊎◌, ◌∙◌, ℕ, ◌+◌, inl, inr, List, [], take, Option, Some, None, Result, Ok, Err, IsErrAnd, IfOk, IfErr, OnOk, String, string_bytes, refl, ap, sym, subst}
 use Rattle.std.specs.declared.alloc.Global.{Global}
 use Rattle.jc_io.specs.Streams.{IsPrefixUpTo}
@@ -38,15 +38,6 @@ passed_on (Err e) x P h p = subst P (sym h) p
 pub passed_write : {T : Type 0} (r : Result T WorkFault) (x : WorkFault) (P : WorkFault → Type 0) → x ≡ Write → IsErrAnd r (λ e. e ≡ x) → P Write → IfErr r P
 passed_write r x P is h p = passed_on r x P h (subst P (sym is) p)
 
--- what holds for all that is known of a file holds of each result
-pub if_ok_all : {T E : Type 0} (r : Result T E) (P : Option (List ℕ) → Type 0) (Q : T → Option (List ℕ) → Option (List ℕ) → Type 0) → ((told lines : Option (List ℕ)) → P told → IfOk r (λ x. Q x told lines)) → IfOk r (λ x. (told lines : Option (List ℕ)) → P told → Q x told lines)
-if_ok_all (Ok x) P Q h = λ told lines p. h told lines p
-if_ok_all (Err e) P Q h = tt
-
-pub if_err_all : {T E : Type 0} (r : Result T E) (P : Option (List ℕ) → Type 0) (Q : E → Option (List ℕ) → Option (List ℕ) → Option (List ℕ) → Type 0) → ((told lines left : Option (List ℕ)) → P told → IfErr r (λ e. Q e told lines left)) → IfErr r (λ e. (told lines left : Option (List ℕ)) → P told → Q e told lines left)
-if_err_all (Ok x) P Q h = tt
-if_err_all (Err e) P Q h = λ told lines left p. h told lines left p
-
 -- the line for which a text is refused is that of its fault, which isn't want of memory
 pub refused_as : (bytes : List ℕ) (fault : ScenarioFault) (line : String Global) → (fault ≢ T.Memory → IsFault bytes fault) → IsRefused fault (string_bytes line) 1 → IsReadAs bytes (Err line)
 refused_as bytes fault line is refused =
@@ -78,7 +69,7 @@ pub recording_unread : (IsMade : Scenario → Recording → Type 0) (HasThreads 
 recording_unread IsMade HasThreads told old new I.Failed same = let b = some_bytes told in (b.0, b.1, same)
 recording_unread IsMade HasThreads told old new I.Memory same = let b = some_bytes told in (b.0, b.1, same)
 
-view_unread : (view : View) (told : Option (List ℕ)) (old new : Stream) (why : ReadFault) → new ≡ old → IsStoppedView view (read_fault why) told old new
+pub view_unread : (view : View) (told : Option (List ℕ)) (old new : Stream) (why : ReadFault) → new ≡ old → IsStoppedView view (read_fault why) told old new
 view_unread view told old new I.Failed same = let b = some_bytes told in (b.0, b.1, same)
 view_unread view told old new I.Memory same = let b = some_bytes told in (b.0, b.1, ([], inl refl, wrote_none old new same))
 
@@ -139,10 +130,8 @@ module _ (s : ScenarioValue) (old new : Stream) (view : View) where
     shown status (text, h, wrote) = (found.0, found.1, (text, (Ok (scenario_view s), found.2, h), wrote))
 
     pub show_stops : (fault : WorkFault) → StopsShow fault → IsStoppedView view fault told old new
-    show_stops fault (inl (is, h)) =
-        subst (λ (f : WorkFault). IsStoppedView view f told old new) (sym is) (found.0, found.1, (h.0, inr (scenario_view s, found.2, h.1), h.2))
-    show_stops fault (inr (is, h)) =
-        subst (λ (f : WorkFault). IsStoppedView view f told old new) (sym is) (found.0, found.1, (h.0, (h.1.0, (Ok (scenario_view s), found.2, h.1.1)), h.2))
+    show_stops fault (inl (is, h)) = rw is (found.0, found.1, (h.0, inr (scenario_view s, found.2, h.1), h.2))
+    show_stops fault (inr (is, h)) = rw is (found.0, found.1, (h.0, (h.1.0, (Ok (scenario_view s), found.2, h.1.1)), h.2))
 
   -- the failures of its writes
   pub show_same : (result : Result ℕ WorkFault) → IfOk result (λ status. Written (λ text. Shows view (scenario_view s) text status) old new) → OnOk result (new.failures ≡ old.failures)
@@ -150,5 +139,5 @@ module _ (s : ScenarioValue) (old new : Stream) (view : View) where
   show_same (Err fault) h = tt
 
   pub show_cause : (fault : WorkFault) → StopsShow fault → (n : ℕ) → IsCause fault ⊥ n n old.failures new.failures
-  show_cause fault (inl (is, h)) n = subst (λ (f : WorkFault). IsCause f ⊥ n n old.failures new.failures) (sym is) (refl, h.2.1)
-  show_cause fault (inr (is, h)) n = subst (λ (f : WorkFault). IsCause f ⊥ n n old.failures new.failures) (sym is) (refl, h.2.1)
+  show_cause fault (inl (is, h)) n = rw is (refl, h.2.1)
+  show_cause fault (inr (is, h)) n = rw is (refl, h.2.1)

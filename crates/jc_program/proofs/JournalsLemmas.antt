@@ -1,12 +1,12 @@
 -- About Journals: lines that follow one another, what they say of the network, and that the same events have one text.
-use Rattle.std.proofs.Common.{◌≡◌, ℕ, ◌+◌, ◌<◌, List, [], ◌∷◌, ◌++◌, length, take, drop, get_or, slice_get, Bool, Option, Some, None, refl, sym, ◌∙◌, ap, subst, append_assoc, append-nil, arith}
+use Rattle.std.proofs.Common.{◌≡◌, ℕ, ◌+◌, List, [], ◌∷◌, ◌++◌, length, take, slice_get, Bool, Option, Some, None, refl, sym, ◌∙◌, ap, subst, append_assoc, add-zero, arith}
 use Rattle.std.proofs.lemmas.Option.{same_Some}
 use Rattle.jc_rules.specs.declared.operation.Event.{Event}
 use Rattle.jc_rules.specs.declared.rule.Rule.{Rule}
 use Rattle.jc_rules.specs.Laws.{OneStepIn}
-use Rattle.jc_rules.specs.Refused.{Cause, IsStuckIn}
+use Rattle.jc_rules.specs.Refused.{Cause}
 use Rattle.jc_rules.specs.State.{State}
-use Rattle.jc_rules.specs.Step.{Step, Network, StepIn, AfterIn, replica_of}
+use Rattle.jc_rules.specs.Step.{Step, Network, AfterIn, replica_of}
 use Rattle.jc_rules.specs.Syntax.{Cmd}
 use Rattle.jc_effects.specs.Difference.{Differences}
 use Rattle.jc_network.specs.Given.{IsGivenStuck}
@@ -15,28 +15,23 @@ use Rattle.jc_network.proofs.GivenLemmas.{reached_more}
 use Rattle.jc_network.proofs.MembersLemmas.{set_there}
 use Rattle.jc_journal.specs.EventLine.{event_line}
 use Rattle.jc_journal.proofs.EventEffectsLemmas.{told_effects, same_effects}
-use Rattle.jc_journal.specs.StuckLine.{stuck_event_line}
-use Rattle.jc_program.specs.Journals.{Asked, rows_asked, IsEventLine, JournalBy, JournalOf, JournalStops}
-use Rattle.jc_program.specs.Runs.{Made, Stuck, GoesBy, events_of}
-use Rattle.jc_program.proofs.PlayResultLemmas.{split_here}
+use Rattle.jc_program.specs.Journals.{Asked, rows_asked, IsEventLine, JournalBy, JournalOf}
+use Rattle.jc_program.specs.Runs.{Made, GoesBy, events_of}
 
 -- ---- lines
 
--- one line more
-pub lines_more : (asked : Asked) (given : Bool) (names : List (List ℕ)) (n : ℕ) (network : Network) (made : List Made) (last : Network) (text : List ℕ) (e : Event) (rows : List (Rule × ℕ)) (new : Network) (line : List ℕ)
-    → JournalBy asked given names n network made last text
-    → (step : StepIn last e new rows)
-    → IsEventLine asked given names (n + length made) e rows step.step.before step.step.after line
-    → JournalBy asked given names n network (made ++ (e, rows) ∷ []) new (text ++ line)
-lines_more asked given names n network [] last text e rows new line h step is =
-    let number : n + 0 ≡ n = omega arith in
-    let here : text ++ line ≡ line ++ [] = ap (λ t. t ++ line) h.1 ∙ sym (append-nil line) in
-    let own : IsEventLine asked given names n e rows step.step.before step.step.after line = subst (λ k. IsEventLine asked given names k e rows step.step.before step.step.after line) number is in
-    subst (λ (N : Network). JournalBy asked given names n N ((e, rows) ∷ []) new (text ++ line)) h.0 (new, step, line, [], own, (refl, refl), here)
-lines_more asked given names n network (m ∷ made) last text e rows new line h step is =
+-- those of some events, and of the others behind them
+pub lines_both : (asked : Asked) (given : Bool) (names : List (List ℕ)) (n : ℕ) (network : Network) (made : List Made) (between : Network) (others : List Made) (last : Network) (text more : List ℕ)
+    → JournalBy asked given names n network made between text
+    → JournalBy asked given names (n + length made) between others last more
+    → JournalBy asked given names n network (made ++ others) last (text ++ more)
+lines_both asked given names n network [] between others last text more a b =
+    let here = subst (λ (N : Network). JournalBy asked given names n N others last more) a.0 (subst (λ k. JournalBy asked given names k between others last more) (add-zero n) b) in
+    subst (λ t. JournalBy asked given names n network others last (t ++ more)) (sym a.1) here
+lines_both asked given names n network (m ∷ made) between others last text more a b =
     let number : n + length (m ∷ made) ≡ n + 1 + length made = omega arith in
-    let later = lines_more asked given names (n + 1) h.0 made last h.3 e rows new line h.5 step (subst (λ k. IsEventLine asked given names k e rows step.step.before step.step.after line) number is) in
-    (h.0, h.1, h.2, h.3 ++ line, h.4, later, ap (λ t. t ++ line) h.6 ∙ append_assoc h.2 h.3 line)
+    let later = lines_both asked given names (n + 1) a.0 made between others last a.3 more a.5 (subst (λ k. JournalBy asked given names k between others last more) number b) in
+    (a.0, a.1, a.2, a.3 ++ more, a.4, later, ap (λ t. t ++ more) a.6 ∙ append_assoc a.2 a.3 more)
 
 -- the events of the lines were made
 pub lines_go : (asked : Asked) (given : Bool) (names : List (List ℕ)) (n : ℕ) (network : Network) (made : List Made) (last : Network) (text : List ℕ) → JournalBy asked given names n network made last text → GoesBy network made last
@@ -55,11 +50,7 @@ lines_of scripts asked given names n network (m ∷ made) last r g =
 
 -- ---- one text
 
--- steps of one network by one event have one state of its replica before them
-same_before : (N : List State) (e : Event) (M K : List State) (rows others : List (Rule × ℕ)) (s : Step N e M rows) (t : Step N e K others) → s.before ≡ t.before
-same_before N e M K rows others s t = same_Some s.before t.before (sym s.is_there ∙ t.is_there)
-
--- and one after them, where they lead to one network
+-- steps of one network by one event that lead to one network have one state of its replica after them
 same_after : (N : List State) (e : Event) (M K : List State) (rows others : List (Rule × ℕ)) (s : Step N e M rows) (t : Step N e K others) → M ≡ K → s.after ≡ t.after
 same_after N e M K rows others s t same =
     let p = replica_of e in
@@ -78,10 +69,9 @@ module _ (one_step : OneStepIn) where
   same_lines asked given names n network (m ∷ made) last other text more a b =
       let between : a.0 ≡ b.0 = (one_step network m.0 a.0 b.0 m.1 m.1 a.1 b.1).0 in
       let states : a.0.states ≡ b.0.states = ap (λ (N : Network). N.states) between in
-      let before = same_before network.states m.0 a.0.states b.0.states m.1 m.1 a.1.step b.1.step in
+      let before : a.1.step.before ≡ b.1.step.before = same_Some a.1.step.before b.1.step.before (sym a.1.step.is_there ∙ b.1.step.is_there) in
       let after = same_after network.states m.0 a.0.states b.0.states m.1 m.1 a.1.step b.1.step states in
-      let own = subst (λ (A : State). IsEventLine asked given names n m.0 m.1 A b.1.step.after a.2) before
-      (subst (λ (B : State). IsEventLine asked given names n m.0 m.1 a.1.step.before B a.2) after a.4) in
+      let own : IsEventLine asked given names n m.0 m.1 b.1.step.before b.1.step.after a.2 = rw (before, after) at a.4 in
       let line : a.2 ≡ b.2 = same_line asked given names n m.0 m.1 b.1.step.before b.1.step.after a.2 b.2 own b.4 in
       let here = subst (λ (N : Network). JournalBy asked given names (n + 1) N made last a.3) between a.5 in
       let rest : a.3 ≡ b.3 = same_lines asked given names (n + 1) b.0 made last other a.3 b.3 here b.5 in
@@ -123,28 +113,3 @@ first_stuck asked given names network events last event why text h =
         stuck = h.ends.2;
       },
     )
-
--- the journal up to the event at the place, which is stuck
-pub journal_to : (asked : Asked) (given : Bool) (names : List (List ℕ)) (first last : Network) (es : List Event) (i : ℕ) (d : Event) (made : List Made) (text : List ℕ) (why : Cause)
-    → JournalBy asked given names 1 first made last text → take i es ≡ events_of made → i < length es → IsStuckIn last (get_or es i d) why
-    → JournalOf asked given names first es last (Some (get_or es i d, why)) (text ++ stuck_event_line names given (length made + 1) last.states why (get_or es i d))
-journal_to asked given names first last es i d made text why goes taken inside stuck = record {
-  made = made;
-  lines = text;
-  goes = goes;
-  ends = (drop (i + 1) es, split_here es i made d inside taken, stuck);
-  written = refl;
-}
-
--- the same in other words
-pub journal_as : (asked : Asked) (given : Bool) (names ns : List (List ℕ)) (network N : Network) (events es : List Event) (last : Network) (stuck : Option Stuck) (text : List ℕ) → names ≡ ns → network ≡ N → events ≡ es → JournalOf asked given names network events last stuck text → JournalOf asked given ns N es last stuck text
-journal_as asked given names ns network N events es last stuck text p q r h =
-    subst (λ (x : List (List ℕ)). JournalOf asked given x N es last stuck text) p
-    (subst (λ (x : Network). JournalOf asked given names x es last stuck text) q
-    (subst (λ (x : List Event). JournalOf asked given names network x last stuck text) r h))
-
-pub stops_as : (asked : Asked) (given : Bool) (names ns : List (List ℕ)) (network N : Network) (events es : List Event) (text : List ℕ) → names ≡ ns → network ≡ N → events ≡ es → JournalStops asked given names network events text → JournalStops asked given ns N es text
-stops_as asked given names ns network N events es text p q r h =
-    subst (λ (x : List (List ℕ)). JournalStops asked given x N es text) p
-    (subst (λ (x : Network). JournalStops asked given names x es text) q
-    (subst (λ (x : List Event). JournalStops asked given names network x text) r h))

@@ -18,14 +18,16 @@ use Rattle.jc_cli.specs.declared.order.View.{View}
 use Rattle.jc_cli.specs.declared.order.View.TheVariants.{Check, Print, Run, Document, Journal}
 use Rattle.jc_program.specs.Journals.{Asked, JournalBy, JournalOf, Journaled, stuck_part}
 use Rattle.jc_program.specs.Journals as J
-use Rattle.jc_program.specs.ViewText.{ReadsAs, RanThrough, IsGivenShown, ShowsRun, Shows, IsRefused, RanOn}
+use Rattle.jc_program.specs.Laws.{OneRun}
+use Rattle.jc_program.specs.ViewText.{ReadsAs, RanThrough, IsGivenShown, ShowsRun, IsRefused, RanOn}
 use Rattle.jc_program.proofs.JournalsLemmas.{lines_go, same_lines}
 
-first_same : {X : Type 0} (x y : X) (xs ys : List X) → x ∷ xs ≡ y ∷ ys → x ≡ y
-first_same x y xs ys e = cc
-
-rest_same : {X : Type 0} (x y : X) (xs ys : List X) → x ∷ xs ≡ y ∷ ys → xs ≡ ys
-rest_same x y xs ys e = cc
+-- bytes are read in one way
+pub one_reading : OneScenario → ScenarioOrFault → OneFault → (bytes : List ℕ) (read other : Result Scenario ScenarioFault) → ReadsAs bytes read → ReadsAs bytes other → read ≡ other
+one_reading one_scenario scenario_or_fault one_fault bytes (Ok s) (Ok t) r q = ap Ok (one_scenario bytes s t r q)
+one_reading one_scenario scenario_or_fault one_fault bytes (Ok s) (Err fault) r q = absurd (scenario_or_fault bytes s fault r q)
+one_reading one_scenario scenario_or_fault one_fault bytes (Err fault) (Ok t) r q = absurd (scenario_or_fault bytes t fault q r)
+one_reading one_scenario scenario_or_fault one_fault bytes (Err fault) (Err other) r q = ap Err (one_fault bytes fault other r q)
 
 -- a scenario has a start, or a given event is stuck, and not both
 pub no_start : LedOrStuck → (s : Scenario) (start : Network) (out : List ℕ) (status : ℕ) → IsStart s start → IsGivenShown s out status → ⊥
@@ -44,45 +46,43 @@ same_refused fault shown other status other_status a b =
     (a.written ∙ ((λ i. refused_text (refusal i) (place i)) ∙ sym b.written), a.ends ∙ sym b.ends)
 
 module _ (one_step : OneStepIn) (stuck_has_none : StuckInHasNone) (one_stuck : OneStuckIn) where
+  -- the events of a run are executed in order
+  head_made : (es : List Event) (m : Made) (made : List Made) (last : Network) (stuck : Option Stuck) → EndsAt es (m ∷ made) last stuck → (rest : List Event) × (es ≡ m.0 ∷ rest) × EndsAt rest made last stuck
+  head_made es m made last None a = (events_of made, a, refl)
+  head_made es m made last (Some (event, why)) a = (events_of made ++ event ∷ a.0, a.1, (a.0, refl, a.2))
+
   -- no event is made where the next is stuck or none is left
-  no_more : (es : List Event) (network : Network) (m : Made) (made : List Made) (stuck other_stuck : Option Stuck) (last : Network) → EndsAt es [] network stuck → GoesBy network (m ∷ made) last → EndsAt es (m ∷ made) last other_stuck → ⊥
-  no_more es network m made None None last a goes b = let e : [] ≡ events_of (m ∷ made) = sym a ∙ b in cc
-  no_more es network m made None (Some (event, why)) last a goes b = let e : [] ≡ m.0 ∷ (events_of made ++ event ∷ b.0) = sym a ∙ b.1 in cc
-  no_more es network m made (Some (event, why)) None last a goes b =
-      let same : event ≡ m.0 = first_same event m.0 a.0 (events_of made) (sym a.1 ∙ b) in
-      stuck_has_none network goes.0 m.0 why m.1 (subst (λ (x : Event). IsStuckIn network x why) same a.2) goes.1
-  no_more es network m made (Some (event, why)) (Some (next, other_why)) last a goes b =
-      let same : event ≡ m.0 = first_same event m.0 a.0 (events_of made ++ next ∷ b.0) (sym a.1 ∙ b.1) in
+  no_more : (es rest : List Event) (network : Network) (m : Made) (made : List Made) (stuck : Option Stuck) (last : Network) → es ≡ m.0 ∷ rest → EndsAt es [] network stuck → GoesBy network (m ∷ made) last → ⊥
+  no_more es rest network m made None last is a goes = cc
+  no_more es rest network m made (Some (event, why)) last is a goes =
+      let same : event ≡ m.0 = cc (is, a.1) in
       stuck_has_none network goes.0 m.0 why m.1 (subst (λ (x : Event). IsStuckIn network x why) same a.2) goes.1
 
   -- where nothing was made, the same is stuck
   same_end : (es : List Event) (network : Network) (stuck other : Option Stuck) → EndsAt es [] network stuck → EndsAt es [] network other → stuck ≡ other
   same_end es network None None a b = refl
-  same_end es network None (Some (event, why)) a b = let e : [] ≡ event ∷ b.0 = sym a ∙ b.1 in cc
-  same_end es network (Some (event, why)) None a b = let e : [] ≡ event ∷ a.0 = sym b ∙ a.1 in cc
+  same_end es network None (Some (event, why)) a b = cc (a, b.1)
+  same_end es network (Some (event, why)) None a b = cc (a.1, b)
   same_end es network (Some (event, why)) (Some (next, other)) a b =
-      let same : event ≡ next = first_same event next a.0 b.0 (sym a.1 ∙ b.1) in
+      let same : event ≡ next = cc (a.1, b.1) in
       let cause : why ≡ other = one_stuck network next why other (subst (λ (x : Event). IsStuckIn network x why) same a.2) b.2 in
       rw (same, cause) refl
-
-  -- the events of a run are executed in order
-  head_made : (es : List Event) (m : Made) (made : List Made) (last : Network) (stuck : Option Stuck) → EndsAt es (m ∷ made) last stuck → (rest : List Event) × (es ≡ m.0 ∷ rest) × EndsAt rest made last stuck
-  head_made es m made last None a = (events_of made, a, refl)
-  head_made es m made last (Some (event, why)) a = (events_of made ++ event ∷ a.0, a.1, (a.0, refl, a.2))
 
   -- from one network a schedule is played in one way
   pub same_play : (es : List Event) (network last other : Network) (made others : List Made) (stuck other_stuck : Option Stuck) → GoesBy network made last → EndsAt es made last stuck → GoesBy network others other → EndsAt es others other other_stuck → (made ≡ others) × (last ≡ other) × (stuck ≡ other_stuck)
   same_play es network last other [] [] stuck other_stuck goes a goes' b =
       (refl, goes ∙ sym goes', same_end es network stuck other_stuck (subst (λ (n : Network). EndsAt es [] n stuck) goes a) (subst (λ (n : Network). EndsAt es [] n other_stuck) goes' b))
   same_play es network last other [] (m ∷ others) stuck other_stuck goes a goes' b =
-      absurd (no_more es network m others stuck other_stuck other (subst (λ (n : Network). EndsAt es [] n stuck) goes a) goes' b)
+      let y = head_made es m others other other_stuck b in
+      absurd (no_more es y.0 network m others stuck other y.1 (subst (λ (n : Network). EndsAt es [] n stuck) goes a) goes')
   same_play es network last other (m ∷ made) [] stuck other_stuck goes a goes' b =
-      absurd (no_more es network m made other_stuck stuck last (subst (λ (n : Network). EndsAt es [] n other_stuck) goes' b) goes a)
+      let x = head_made es m made last stuck a in
+      absurd (no_more es x.0 network m made other_stuck last x.1 (subst (λ (n : Network). EndsAt es [] n other_stuck) goes' b) goes)
   same_play es network last other (m ∷ made) (k ∷ others) stuck other_stuck goes a goes' b =
       let x = head_made es m made last stuck a in
       let y = head_made es k others other other_stuck b in
-      let event : m.0 ≡ k.0 = first_same m.0 k.0 x.0 y.0 (sym x.1 ∙ y.1) in
-      let rest : x.0 ≡ y.0 = rest_same m.0 k.0 x.0 y.0 (sym x.1 ∙ y.1) in
+      let event : m.0 ≡ k.0 = cc (x.1, y.1) in
+      let rest : x.0 ≡ y.0 = cc (x.1, y.1) in
       let step = subst (λ (e : Event). StepIn network e goes.0 m.1) event goes.1 in
       let same = one_step network k.0 goes.0 goes'.0 m.1 k.1 step goes'.1 in
       let more = same_play y.0 goes'.0 last other made others stuck other_stuck (subst (λ (n : Network). GoesBy n made last) same.0 goes.2) (subst (λ (r : List Event). EndsAt r made last stuck) rest x.2) goes'.2 y.2 in
@@ -131,18 +131,15 @@ module _ (one_step : OneStepIn) (stuck_has_none : StuckInHasNone) (one_stuck : O
     same_run trace lines events s shown other status other_status (inr a) (inl b) = absurd (no_start led_or_stuck s b.start shown status b.is_start a)
     same_run trace lines events s shown other status other_status (inr a) (inr b) = same_given one_given_stuck s shown other status other_status a b
 
-    module _ (one_scenario : OneScenario) (scenario_or_fault : ScenarioOrFault) (one_fault : OneFault) where
-      same_shown : (view : View) (s : Scenario) (shown other : List ℕ) (status other_status : ℕ) → Shows view s shown status → Shows view s other other_status → (shown ≡ other) × (status ≡ other_status)
-      same_shown Check s shown other status other_status a b = (a.0 ∙ sym b.0, a.1 ∙ sym b.1)
-      same_shown Print s shown other status other_status a b = (a.0 ∙ sym b.0, a.1 ∙ sym b.1)
-      same_shown (Run trace) s shown other status other_status a b = same_run trace Dumps s.schedule s shown other status other_status a b
-      same_shown (Document n) s shown other status other_status a b = same_run false Documents (take n s.schedule) s shown other status other_status a b
-      same_shown (Journal trace effects) s shown other status other_status a b = same_journal (record { rules = trace; effects = effects }) s shown other status other_status a b
+    same_ran : (view : View) (read : Result Scenario ScenarioFault) (shown other : List ℕ) (status other_status : ℕ) → RanOn view read shown status → RanOn view read other other_status → (shown ≡ other) × (status ≡ other_status)
+    same_ran view (Err fault) shown other status other_status a b = same_refused fault shown other status other_status a b
+    same_ran Check (Ok s) shown other status other_status a b = (a.0 ∙ sym b.0, a.1 ∙ sym b.1)
+    same_ran Print (Ok s) shown other status other_status a b = (a.0 ∙ sym b.0, a.1 ∙ sym b.1)
+    same_ran (Run trace) (Ok s) shown other status other_status a b = same_run trace Dumps s.schedule s shown other status other_status a b
+    same_ran (Document n) (Ok s) shown other status other_status a b = same_run false Documents (take n s.schedule) s shown other status other_status a b
+    same_ran (Journal trace effects) (Ok s) shown other status other_status a b = same_journal (record { rules = trace; effects = effects }) s shown other status other_status a b
 
-      pub one_run : (view : View) (bytes shown other : List ℕ) (status other_status : ℕ) (read other_read : Result Scenario ScenarioFault) → ReadsAs bytes read → ReadsAs bytes other_read → RanOn view read shown status → RanOn view other_read other other_status → (shown ≡ other) × (status ≡ other_status)
-      one_run view bytes shown other status other_status (Ok s) (Ok t) r q a b =
-          same_shown view t shown other status other_status (subst (λ (x : Scenario). Shows view x shown status) (one_scenario bytes s t r q) a) b
-      one_run view bytes shown other status other_status (Ok s) (Err fault) r q a b = absurd (scenario_or_fault bytes s fault r q)
-      one_run view bytes shown other status other_status (Err fault) (Ok t) r q a b = absurd (scenario_or_fault bytes t fault q r)
-      one_run view bytes shown other status other_status (Err fault) (Err other_fault) r q a b =
-          same_refused other_fault shown other status other_status (subst (λ (f : ScenarioFault). IsRefused f shown status) (one_fault bytes fault other_fault r q) a) b
+    pub one_run : OneScenario → ScenarioOrFault → OneFault → OneRun
+    one_run one_scenario scenario_or_fault one_fault view bytes shown other status other_status (read, reads, a) (next, others, b) =
+        let same = one_reading one_scenario scenario_or_fault one_fault bytes read next reads others in
+        same_ran view next shown other status other_status (subst (λ (r : Result Scenario ScenarioFault). RanOn view r shown status) same a) b

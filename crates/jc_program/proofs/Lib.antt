@@ -2,7 +2,6 @@ pub mod PlayResultLemmas
 pub mod JournalsLemmas
 pub mod JournalResultLemmas
 pub mod ReadsScenarioLemmas
-pub mod ViewOutputLemmas
 pub mod ReplicaLinesLemmas
 pub mod RunOutLemmas
 pub mod ViewTextLemmas
@@ -10,15 +9,10 @@ pub mod GivenStuckLemmas
 pub mod JournaledLemmas
 pub mod LawsLemmas
 pub mod SomeRunLemmas
-pub mod ShowLemmas
 pub mod SessionRunsLemmas
 pub mod CommandsLemmas
 pub mod ThreadRunsLemmas
 pub mod FoundLemmas
 pub mod WeaveRunsLemmas
-mod ServedLemmas
 mod PromiseLemmas
 mod PromiseFactsLemmas
-mod EndsLemmas
-mod RefusedViewLemmas
-mod EndLinesLemmas

@@ -23,7 +23,8 @@ use Rattle.jc_cli.proofs.ProgramCommandsLemmas.{asks_none}
 use Rattle.jc_program.specs.PromiseFacts.{DoneFact, StoppedFact, ThreadsFact, HelpFact, LostFact, FaultyFact, UnshownFact, ShownFact, UnreadFact, OtherFileFact, MostFact, FailedFact, Facts}
 use Rattle.jc_program.specs.Laws.{PromiseGivesFacts, AlonePromiseGivesFacts}
 use Rattle.jc_program.proofs.CommandsLemmas as E
-use Rattle.jc_program.proofs.ThreadRunsLemmas.{lacking}
+use Rattle.jc_io.specs.declared.io.ReadFault.TheVariants as I
+use Rattle.jc_program.proofs.FoundLemmas.{recording_unread}
 use Rattle.jc_program.proofs.WeaveRunsLemmas.{woven_not_five}
 use Rattle.jc_program.proofs.PromiseLemmas.{alone_at, silent_at, loses_none}
 
@@ -271,7 +272,7 @@ module _ (Does : Task → Type 0) (files : Files) (words : List (List ℕ)) (old
   threads_of (unstarted input out says) order limit some is =
       let cause : IsCause Memory (IsUnread files.may_fail order.file) old.input.failures new.input.failures old.out.failures new.out.failures = (ap (λ (s : Stream). s.failures) input, ap (λ (s : Stream). s.failures) out) in
       let told = told_by old.input.bytes files.texts order.file in
-      inr (record { fault = Memory; ends = refl; line = says; cause = cause; stops = lacking (IsByThreads limit) AreThreadScenario told old.out new.out out })
+      inr (record { fault = Memory; ends = refl; line = says; cause = cause; stops = recording_unread (IsByThreads limit) AreThreadScenario told old.out new.out I.Memory out })
   threads_of (no_command none input way) order limit some is = absurd (none_some none some)
 
   other_file_of : {n : ℕ} → Way Does files words old new n → OtherFileFact files words old new n

@@ -1,8 +1,8 @@
 -- About Promise: each end of the program keeps it. `work`, `work_alone` and `exit` use it.
-use Rattle.std.proofs.Common.{◌≡◌, ◌≢◌, ◌⊎◌, ◌≤◌, ◌∙◌, ℕ, inl, inr, List, [], Bool, true, false, Option, Some, None, Ok, Err, codes, string_bytes, refl, sym, ap, subst, arith}
+use Rattle.std.proofs.Common.{◌≡◌, ◌≢◌, ◌⊎◌, ℕ, inl, inr, List, [], Bool, true, false, Option, Some, None, Ok, Err, codes, string_bytes, refl, sym, ap, subst, arith}
 use Rattle.std.proofs.lemmas.Slice.Eq.{bytes_eq-Decides}
 use Rattle.std.specs.Str.{bytes_eq}
-use Rattle.jc_io.specs.Streams.{ConsumesUpTo, ConsumesIfKnown}
+use Rattle.jc_io.specs.Streams.{ConsumesUpTo}
 use Rattle.jc_rules.specs.Step.{Network}
 use Rattle.jc_scenario.specs.WellFormed.{Scenario}
 use Rattle.jc_network.specs.Given.{IsStart}
@@ -21,26 +21,37 @@ use Rattle.jc_program.specs.WorkFaults.{Explains, fault_status, fault_line}
 use Rattle.jc_program.specs.ViewOutput.{AreTold, told_by}
 use Rattle.jc_program.specs.Faults.{IsCause, IsUnread}
 use Rattle.jc_program.specs.SessionRuns.{lines_by}
-use Rattle.jc_program.specs.ThreadRuns.{outcome_status, Records, IsByThreads, HaveThreaded, HaveStopped}
+use Rattle.jc_program.specs.ThreadRuns.{outcome_status, Records, IsByThreads}
 use Rattle.jc_program.specs.WeaveRuns.{IsBySeed}
 use Rattle.jc_program.specs.Commands.{IsAlone, IsSilent, ReadsTextAlone, IsDone, IsStoppedCommand}
 use Rattle.jc_io.specs.Written.{Stream}
-use Rattle.jc_program.specs.Promise.{World, Files, NoneFailed, ReadsFor, HasStart, Promise, All, Says, Carried, Stopped, Completes, Breaks, done, text_refused, stuck, given_stuck, thread_starved, help, usage, read_failed, write_failed, help_write_failed, too_many_lines, cut_short, no_thread, no_memory, no_memory_for_words}
+use Rattle.jc_program.specs.Promise.{World, Files, NoneFailed, ReadsText, ReadsFor, HasStart, Promise, All, Says, Carried, Stopped, Completes, Breaks, done, text_refused, stuck, given_stuck, thread_starved, help, usage, read_failed, write_failed, help_write_failed, too_many_lines, cut_short, no_thread, no_memory, no_memory_for_words}
 use Rattle.jc_program.proofs.FoundLemmas.{some_bytes}
+use Rattle.jc_program.proofs.SessionRunsLemmas.{no_dash}
 use Rattle.jc_program.proofs.CommandsLemmas as E
 
 -- ---- tasks
 
+-- a task on the file of this name came to its end
+abbrev pub HasCompleted : Files → List ℕ → Task → World → World → ℕ → Type 0
+HasCompleted files file task old new n =
+    (bytes : List ℕ) × AreTold (told_by old.input.bytes files.texts file) bytes × Completes task bytes (lines_by old.input.bytes file) old new n
+
+-- a fault stopped it
+abbrev pub HasBroken : Files → List ℕ → Task → World → World → WorkFault → Type 0
+HasBroken files file task old new fault =
+    (bytes : List ℕ) × AreTold (told_by old.input.bytes files.texts file) bytes × Breaks task fault bytes (lines_by old.input.bytes file) (lines_by new.input.bytes file) old.out new.out
+
 -- a task without threads came to its end
-completed : (task : Task) (told lines : Option (List ℕ)) (old new : World) (n : ℕ) → IsDone task told lines old.out new.out (Says old new) n → (IsSilent task → new.err ≡ old.err) → (bytes : List ℕ) × AreTold told bytes × Completes task bytes lines old new n
+pub completed : (task : Task) (told lines : Option (List ℕ)) (old new : World) (n : ℕ) → IsDone task told lines old.out new.out (Says old new) n → (IsSilent task → new.err ≡ old.err) → (bytes : List ℕ) × AreTold told bytes × Completes task bytes lines old new n
 completed (Show view) told lines old new n h quiet = (h.0, h.1, (h.2, quiet tt))
 completed Debug told lines old new n h quiet = (h.0, h.1, (h.2, quiet tt))
 completed Serve told lines old new n h quiet = let b = some_bytes told in (b.0, b.1, (h, quiet tt))
 completed (Threads limit) told lines old new n h quiet = absurd h
 completed (Weave seed limit) told lines old new n h quiet = h
 
--- a fault stopped it
-broken : (task : Task) (fault : WorkFault) (told lines left : Option (List ℕ)) (old new : Stream) → IsAlone task → IsStoppedCommand task fault told lines left old new → (bytes : List ℕ) × AreTold told bytes × Breaks task fault bytes lines left old new
+-- or a fault stopped it
+pub broken : (task : Task) (fault : WorkFault) (told lines left : Option (List ℕ)) (old new : Stream) → IsAlone task → IsStoppedCommand task fault told lines left old new → (bytes : List ℕ) × AreTold told bytes × Breaks task fault bytes lines left old new
 broken Serve fault told lines left old new alone h = let b = some_bytes told in (b.0, b.1, h)
 broken (Threads limit) fault told lines left old new alone h = absurd alone
 broken _ fault told lines left old new alone h = h
@@ -90,38 +101,26 @@ is_dash file = by (bytes_eq file (codes "-")) refl
   where
     by : (t : Bool) → bytes_eq file (codes "-") ≡ t → (file ≡ codes "-") ⊎ (file ≢ codes "-")
     by true e = inl ((bytes_eq-Decides file (codes "-")).0 e)
-    by false e = inr (λ same. (let bad : true ≡ false = sym ((bytes_eq-Decides file (codes "-")).1 same) ∙ e in cc))
-
-none_lost : (a : Option (List ℕ)) → ConsumesIfKnown a a []
-none_lost None = tt
-none_lost (Some xs) = refl
+    by false e = inr (no_dash file e)
 
 pub loses_none : (a b : Option (List ℕ)) → b ≡ a → ConsumesUpTo 8388609 a b
-loses_none a b same = ([], nat_0, subst (λ (o : Option (List ℕ)). ConsumesIfKnown a o []) (sym same) (none_lost a))
-  where
-    nat_0 : 0 ≤ 8388609
-    nat_0 = omega arith
+loses_none None b same = ([], omega arith, tt)
+loses_none (Some xs) b same = ([], omega arith, rw same refl)
 
 module _ (order : Order) (n : ℕ) (old new : World)
     (most : ReadsTextAlone order.task ⊎ (order.file ≡ codes "-") → ConsumesUpTo 8388609 old.input.bytes new.input.bytes)
     (untouched : ReadsTextAlone order.task ⊎ ((n ≡ 1) ⊎ (n ≡ 3)) → order.file ≢ codes "-" → new.input ≡ old.input) where
-  left_alone : ReadsTextAlone order.task ⊎ ((n ≡ 1) ⊎ (n ≡ 3)) → ConsumesUpTo 8388609 old.input.bytes new.input.bytes
-  left_alone by = elim (is_dash order.file) [ inl file ↦ most (inr file) | inr file ↦ loses_none old.input.bytes new.input.bytes (ap (λ (s : Stream). s.bytes) (untouched by file)) ]
-
-  loses : ReadsTextAlone order.task ⊎ ((n ≡ 1) ⊎ ((n ≡ 3) ⊎ (order.file ≡ codes "-"))) → ConsumesUpTo 8388609 old.input.bytes new.input.bytes
-  loses (inl other) = most (inl other)
-  loses (inr (inl one)) = left_alone (inr (inl one))
-  loses (inr (inr (inl three))) = left_alone (inr (inr three))
-  loses (inr (inr (inr file))) = most (inr file)
-
-  elsewhere : ReadsTextAlone order.task ⊎ ((n ≡ 1) ⊎ ((n ≡ 3) ⊎ (order.file ≡ codes "-"))) → order.file ≢ codes "-" → new.input ≡ old.input
-  elsewhere (inl other) = untouched (inl other)
-  elsewhere (inr (inl one)) = untouched (inr (inl one))
-  elsewhere (inr (inr (inl three))) = untouched (inr (inr three))
-  elsewhere (inr (inr (inr file))) = λ other. absurd (other file)
+  reads_known : ReadsTextAlone order.task ⊎ ((n ≡ 1) ⊎ (n ≡ 3)) → ReadsText order.file old new
+  reads_known by = record {
+    other_file = untouched by;
+    most = elim (is_dash order.file) [ inl file ↦ most (inr file) | inr file ↦ loses_none old.input.bytes new.input.bytes (ap (λ (s : Stream). s.bytes) (untouched by file)) ];
+  }
 
   pub reads_for : ReadsFor order n old new
-  reads_for by = record { other_file = elsewhere by; most = loses by }
+  reads_for (inr (inr (inr file))) = record { other_file = λ other. absurd (other file); most = most (inr file) }
+  reads_for (inr (inr (inl three))) = reads_known (inr (inr three))
+  reads_for (inr (inl one)) = reads_known (inr (inl one))
+  reads_for (inl alone) = reads_known (inl alone)
 
 -- ---- the promise
 
@@ -152,35 +151,15 @@ module _ (Does : Task → Type 0) (files : Files) (words : List (List ℕ)) (old
   halted Memory n e s c = subst (Promise Does files words old new) (sym e) (no_memory s (record { input = c.0; out = c.1 }))
 
   module _ (order : Order) (is_order : words_order words ≡ Some order) (does : Does order.task) where
-    -- a task without threads came to its end
-    pub carried : (n : ℕ) → IsDone order.task (told_by old.input.bytes files.texts order.file) (lines_by old.input.bytes order.file) old.out new.out (Says old new) n → (IsSilent order.task → new.err ≡ old.err) → ReadsFor order n old new → NoneFailed old new → Promise Does files words old new n
-    carried n h quiet reads free =
-        let told = told_by old.input.bytes files.texts order.file in
-        let lines = lines_by old.input.bytes order.file in
-        let c = completed order.task told lines old new n h quiet in
-        ended (record { order = order; is_order = is_order; does = does; bytes = c.0; told = c.1; completes = c.2; reads = reads; none_failed = free })
+    -- the command came to its end
+    pub carried : (n : ℕ) → HasCompleted files order.file order.task old new n → ReadsFor order n old new → NoneFailed old new → Promise Does files words old new n
+    carried n (bytes, told, completes) reads free =
+        ended (record { order = order; is_order = is_order; does = does; bytes = bytes; told = told; completes = completes; reads = reads; none_failed = free })
 
     -- a fault stopped it
-    pub stopped : (fault : WorkFault) (n : ℕ) → n ≡ fault_status fault → IsAlone order.task → IsStoppedCommand order.task fault (told_by old.input.bytes files.texts order.file) (lines_by old.input.bytes order.file) (lines_by new.input.bytes order.file) old.out new.out → IsCause fault (IsUnread files.may_fail order.file) old.input.failures new.input.failures old.out.failures new.out.failures → ReadsFor order 4 old new → Says old new (fault_line fault) → Promise Does files words old new n
-    stopped fault n e alone h cause reads line =
-        let b = broken order.task fault (told_by old.input.bytes files.texts order.file) (lines_by old.input.bytes order.file) (lines_by new.input.bytes order.file) old.out new.out alone h in
-        halted fault n e (record { order = order; is_order = is_order; does = does; bytes = b.0; told = b.1; breaks = b.2; reads = reads; line = line }) cause
-
-    module _ (limit : ℕ) (is : order.task ≡ Threads limit) where
-      -- threads ran to their end
-      pub threaded : (n : ℕ) → HaveThreaded limit (told_by old.input.bytes files.texts order.file) old.out new.out (Says old new) n → ReadsFor order n old new → NoneFailed old new → Promise Does files words old new n
-      threaded n (bytes, told, texts) reads free =
-          let lines = lines_by old.input.bytes order.file in
-          let c : Completes (Threads limit) bytes lines old new n = texts in
-          ended (record { order = order; is_order = is_order; does = does; bytes = bytes; told = told; completes = subst (λ (k : Task). Completes k bytes lines old new n) (sym is) c; reads = reads; none_failed = free })
-
-      -- a fault stopped the command
-      pub threads_stopped : (fault : WorkFault) (n : ℕ) → n ≡ fault_status fault → HaveStopped limit fault (told_by old.input.bytes files.texts order.file) old.out new.out → IsCause fault (IsUnread files.may_fail order.file) old.input.failures new.input.failures old.out.failures new.out.failures → ReadsFor order 4 old new → Says old new (fault_line fault) → Promise Does files words old new n
-      threads_stopped fault n e (bytes, told, stops) cause reads line =
-          let lines = lines_by old.input.bytes order.file in
-          let left = lines_by new.input.bytes order.file in
-          let b : Breaks (Threads limit) fault bytes lines left old.out new.out = stops in
-          halted fault n e (record { order = order; is_order = is_order; does = does; bytes = bytes; told = told; breaks = subst (λ (k : Task). Breaks k fault bytes lines left old.out new.out) (sym is) b; reads = reads; line = line }) cause
+    pub stopped : (fault : WorkFault) (n : ℕ) → n ≡ fault_status fault → HasBroken files order.file order.task old new fault → IsCause fault (IsUnread files.may_fail order.file) old.input.failures new.input.failures old.out.failures new.out.failures → ReadsFor order 4 old new → Says old new (fault_line fault) → Promise Does files words old new n
+    stopped fault n e (bytes, told, breaks) cause reads line =
+        halted fault n e (record { order = order; is_order = is_order; does = does; bytes = bytes; told = told; breaks = breaks; reads = reads; line = line }) cause
 
 -- ---- more tasks
 

@@ -36,27 +36,18 @@ lines_more Documents names p network A e =
     let zero_more : 0 + p ≡ p = omega arith in
     ap (λ m. views_text names (take m network)) one ∙ (next_views names 0 p network A e ∙ ap (λ k. views_text names (take p network) ++ view_line names (name_at names k) A) zero_more)
 
--- what follows the first dumps
-dumps_split : (n k : ℕ) (names : List (List ℕ)) (network : List State) → (rest : List ℕ) × (dumps_from n names network ≡ dumps_from n names (take k network) ++ rest)
-dumps_split n zero names network = (dumps_from n names network, refl)
-dumps_split n (suc k) names [] = ([], refl)
-dumps_split n (suc k) names (A ∷ network) =
-    let line = dump_line names (name_at names n) A in
-    let later = dumps_split (suc n) k names network in
-    (later.0, ap (λ t. line ++ t) later.1 ∙ sym (append_assoc line (dumps_from (suc n) names (take k network)) later.0))
-
--- what follows the first lines
-views_split : (n k : ℕ) (names : List (List ℕ)) (network : List State) → (rest : List ℕ) × (views_from n names network ≡ views_from n names (take k network) ++ rest)
-views_split n zero names network = (views_from n names network, refl)
-views_split n (suc k) names [] = ([], refl)
-views_split n (suc k) names (A ∷ network) =
-    let line = view_line names (name_at names n) A in
-    let later = views_split (suc n) k names network in
-    (later.0, ap (λ t. line ++ t) later.1 ∙ sym (append_assoc line (views_from (suc n) names (take k network)) later.0))
+-- what follows the first of some lines that stand one behind another
+split : (line : ℕ → State → List ℕ) (from : ℕ → List State → List ℕ) → ((n : ℕ) → from n [] ≡ []) → ((n : ℕ) (A : State) (network : List State) → from n (A ∷ network) ≡ line n A ++ from (suc n) network) → (n k : ℕ) (network : List State) → (rest : List ℕ) × (from n network ≡ from n (take k network) ++ rest)
+split line from none more n zero network = (from n network, ap (λ t. t ++ from n network) (sym (none n)))
+split line from none more n (suc k) [] = ([], sym (append-nil (from n [])))
+split line from none more n (suc k) (A ∷ network) =
+    let later = split line from none more (suc n) k network in
+    let first = sym (append_assoc (line n A) (from (suc n) (take k network)) later.0) ∙ ap (λ (t : List ℕ). t ++ later.0) (sym (more n A (take k network))) in
+    (later.0, more n A network ∙ (ap (λ t. line n A ++ t) later.1 ∙ first))
 
 pub lines_split : (lines : ReplicaLines) (k : ℕ) (names : List (List ℕ)) (network : List State) → (rest : List ℕ) × (lines_text lines names network ≡ lines_text lines names (take k network) ++ rest)
-lines_split Dumps k names network = dumps_split 0 k names network
-lines_split Documents k names network = views_split 0 k names network
+lines_split Dumps k names network = split (λ n A. dump_line names (name_at names n) A) (λ n network. dumps_from n names network) (λ n. refl) (λ n A network. refl) 0 k network
+lines_split Documents k names network = split (λ n A. view_line names (name_at names n) A) (λ n network. views_from n names network) (λ n. refl) (λ n A network. refl) 0 k network
 
 module _ (lines : ReplicaLines) (names : List (List ℕ)) (network : List State) (p : ℕ) (a b c : OutState) (inside : p < length network) (before : AddsText (lines_text lines names (take p network)) a b) where
   pub lines_go_on : (line : List ℕ) → ((A : State) → slice_get network p ≡ Some A → line ≡ replica_line lines names (name_at names p) A) → AddsText line b c → AddsText (lines_text lines names (take (p + 1) network)) a c

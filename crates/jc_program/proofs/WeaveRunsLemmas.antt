@@ -1,13 +1,12 @@
 -- About WeaveRuns: what is woven has texts, is never starved, and the same seed gives the same.
-use Rattle.std.proofs.Common.{arith, ◌≡◌, ◌≢◌, ◌∙◌, ◌≤◌, if◌then◌else◌, ℕ, zero, suc, inl, inr, List, [], ◌∷◌, ◌++◌, Bool, true, false, Option, Some, None, Result, Ok, Err, string_bytes, codes, decimal, refl, sym, ap, subst, length, map, slice_get, slice_index}
+use Rattle.std.proofs.Common.{arith, ◌≡◌, ◌≢◌, ◌∙◌, ◌≤◌, if◌then◌else◌, ℕ, zero, suc, inl, inr, List, [], ◌∷◌, ◌++◌, Bool, false, Result, Ok, Err, string_bytes, codes, decimal, refl, sym, ap, subst, length, map, slice_get, slice_index, Some}
 use Rattle.std.specs.Prelude.{All}
 use Rattle.std.specs.List.{list_any}
-use Rattle.std.proofs.lemmas.Option.{same_Some, none-some, slice_get_within, get_or_from_slice_get}
+use Rattle.std.proofs.lemmas.Option.{same_Some, slice_get_within, get_or_from_slice_get}
 use Rattle.jc_rules.specs.declared.operation.Event.{Event}
-use Rattle.jc_rules.specs.Refused.{Cause, because, no_node}
+use Rattle.jc_rules.specs.Refused.{Cause}
 use Rattle.jc_rules.specs.State.{State}
 use Rattle.jc_rules.specs.Step.{Network}
-use Rattle.jc_rules.specs.Syntax.{Cmd}
 use Rattle.jc_network.specs.declared.fault.Stuck.{Stuck}
 use Rattle.jc_network.specs.Given.{OneGivenStuck, LedOrStuck}
 use Rattle.jc_network.specs.Steps.{stuck_for}
@@ -21,16 +20,15 @@ use Rattle.jc_choice.specs.declared.end.End.TheVariants as N
 use Rattle.jc_choice.specs.Laws.{with_schedule}
 use Rattle.jc_choice.proofs.LegalLemmas.{well_formed_with}
 use Rattle.jc_weave.specs.Laws.{OneSchedule, SchedulesLead, EachIsChosen}
-use Rattle.jc_weave.specs.Weaving.{end_of_left, end_of_state, end_or, end_in, counts_in, numbers_from, IsWoven}
+use Rattle.jc_weave.specs.Weaving.{end_in, counts_in, numbers_from, IsWoven}
 use Rattle.jc_weave.proofs.WeavingLemmas.{leads, within}
 use Rattle.jc_weave.proofs.WeavingStuckLemmas.{IsEndOfReplicas, ends_of_replicas, ends_long, counts_long}
 use Rattle.jc_program.specs.declared.recording.Outcome.TheVariants as O
 use Rattle.jc_program.specs.Ends.{IsEndText, IsEndLine, AreLinesBelow, AreEndLines, IsTellable, AreTellable, lacks_memory, is_stuck, outcome_of}
 use Rattle.jc_program.specs.Laws.{OneWeaving, WovenTextsLead}
 use Rattle.jc_program.specs.ThreadRuns.{outcome_status, AreRecordingTexts, ShowsRecording, RecordsOn}
-use Rattle.jc_program.specs.ViewText.{ReadsAs, IsRefused}
 use Rattle.jc_program.specs.WeaveRuns.{IsBySeed}
-use Rattle.jc_program.proofs.LawsLemmas.{no_start, same_given, same_refused}
+use Rattle.jc_program.proofs.LawsLemmas.{one_reading, no_start, same_given, same_refused}
 
 -- ---- texts
 
@@ -38,10 +36,8 @@ one_of_all : (P : End → Type 0) (ends : List End) (p : ℕ) (end : End) → Al
 one_of_all P ends p end all there = subst P (get_or_from_slice_get ends p end end there) (all p end (slice_get_within ends p end there))
 
 tellable_end : (names : List (List ℕ)) (end : End) → IsEndOfReplicas (length names) end → IsTellable names end
-tellable_end names N.Finished h = tt
 tellable_end names (N.StuckAt stuck) h = record { why = h.why; event = h.event; is = h.is; named = h.named }
-tellable_end names N.LimitReached h = tt
-tellable_end names N.NoMemory h = absurd h
+tellable_end names _ h = tt
 
 -- the ends have lines
 pub tellable : (s : Scenario) (seed limit : ℕ) (schedule : List Event) (network : Network) (ends : List End) → IsWellFormedScenario s → IsWoven s seed limit schedule network ends → AreTellable s.names (counts_in schedule s.names) ends
@@ -58,29 +54,15 @@ formed s seed limit schedule network ends well most x =
 
 -- ---- no end is want of memory
 
-left_no_memory : (left : List Cmd) → lacks_memory (end_of_left left) ≡ false
-left_no_memory [] = refl
-left_no_memory (c ∷ rest) = refl
-
-state_no_memory : (o : Option State) → lacks_memory (end_of_state o) ≡ false
-state_no_memory None = refl
-state_no_memory (Some A) = left_no_memory A.left
-
 end_no_memory : (stucks : List Stuck) (states : List State) (p : ℕ) → lacks_memory (end_in stucks states p) ≡ false
-end_no_memory stucks states p = go _
-  where
-    go : (o : Option Stuck) → lacks_memory (end_or o (end_of_state (slice_get states p))) ≡ false
-    go None = state_no_memory (slice_get states p)
-    go (Some stuck) = refl
+end_no_memory stucks states p = grind arith
 
 none_lacks : (f : ℕ → End) (ps : List ℕ) → ((p : ℕ) → lacks_memory (f p) ≡ false) → list_any lacks_memory (map f ps) ≡ false
 none_lacks f [] each = refl
 none_lacks f (p ∷ ps) each = rw (each p) (none_lacks f ps each)
 
 not_five : (lacks stuck : Bool) → lacks ≡ false → outcome_status (if lacks then O.NoMemory else (if stuck then O.Stuck else O.Done)) ≢ 5
-not_five true stuck e = cc
-not_five false true e = λ five. cc
-not_five false false e = λ five. cc
+not_five lacks stuck e = grind arith
 
 -- so the status is never that of want of memory
 pub woven_not_five : (s : Scenario) (seed limit : ℕ) (out lines : List ℕ) → AreRecordingTexts (IsBySeed seed limit s) out lines 5 → ⊥
@@ -93,20 +75,15 @@ woven_not_five s seed limit out lines h =
 -- ---- one text
 
 one_cause : (why due : Cause) (event next : Event) → stuck_for why event ≡ stuck_for due next → why ≡ due
-one_cause (because r) (because q) event next e = ap because (ap (λ (s : Stuck). s.refusal) e)
-one_cause (no_node k) (no_node l) event next e = ap no_node (same_Some k l (ap (λ (s : Stuck). s.key) e))
-one_cause (because r) (no_node l) event next e = absurd (none-some _ (ap (λ (s : Stuck). s.key) e))
-one_cause (no_node k) (because q) event next e = absurd (none-some _ (sym (ap (λ (s : Stuck). s.key) e)))
+one_cause why due event next e = grind arith
 
 one_end_text : (names : List (List ℕ)) (end : End) (text other : List ℕ) → IsEndText names end text → IsEndText names end other → text ≡ other
-one_end_text names N.Finished text other a b = a ∙ sym b
 one_end_text names (N.StuckAt s) text other (why, event, is, shown) (due, next, same, told) =
     let both : stuck_for why event ≡ stuck_for due next = sym is ∙ same in
     let cause : why ≡ due = one_cause why due event next both in
     let of : event ≡ next = ap (λ (t : Stuck). t.event) both in
     shown ∙ ((λ i. stuck_text names (cause i) (of i)) ∙ sym told)
-one_end_text names N.LimitReached text other a b = a ∙ sym b
-one_end_text names N.NoMemory text other a b = a ∙ sym b
+one_end_text names _ text other a b = a ∙ sym b
 
 one_line : (names : List (List ℕ)) (made : List ℕ) (ends : List End) (p : ℕ) (line other : List ℕ) → IsEndLine names made ends p line → IsEndLine names made ends p other → line ≡ other
 one_line names made ends p line other a b =
@@ -146,19 +123,17 @@ module _ (one_schedule : OneSchedule) where
         let h = same_given one_given_stuck s out other status other_status a.0 b.0 in
         (h.0, a.1 ∙ sym b.1, h.1)
 
-    module _ (one_scenario : OneScenario) (scenario_or_fault : ScenarioOrFault) (one_fault : OneFault) where
-      same_records : (seed limit : ℕ) (bytes out other lines others : List ℕ) (status other_status : ℕ) (read other_read : Result Scenario ScenarioFault) → ReadsAs bytes read → ReadsAs bytes other_read → RecordsOn (IsBySeed seed limit) read out lines status → RecordsOn (IsBySeed seed limit) other_read other others other_status
-          → (out ≡ other) × (lines ≡ others) × (status ≡ other_status)
-      same_records seed limit bytes out other lines others status other_status (Ok s) (Ok t) r q a b =
-          same_shown t seed limit out other lines others status other_status (subst (λ (x : Scenario). ShowsRecording (IsBySeed seed limit) x out lines status) (one_scenario bytes s t r q) a) b
-      same_records seed limit bytes out other lines others status other_status (Ok s) (Err fault) r q a b = absurd (scenario_or_fault bytes s fault r q)
-      same_records seed limit bytes out other lines others status other_status (Err fault) (Ok t) r q a b = absurd (scenario_or_fault bytes t fault q r)
-      same_records seed limit bytes out other lines others status other_status (Err fault) (Err next) r q a b =
-          let h = same_refused next out other status other_status (subst (λ (f : ScenarioFault). IsRefused f out status) (one_fault bytes fault next r q) a.0) b.0 in
-          (h.0, a.1 ∙ sym b.1, h.1)
+    same_told : (seed limit : ℕ) (read : Result Scenario ScenarioFault) (out other lines others : List ℕ) (status other_status : ℕ) → RecordsOn (IsBySeed seed limit) read out lines status → RecordsOn (IsBySeed seed limit) read other others other_status
+        → (out ≡ other) × (lines ≡ others) × (status ≡ other_status)
+    same_told seed limit (Ok s) out other lines others status other_status a b = same_shown s seed limit out other lines others status other_status a b
+    same_told seed limit (Err fault) out other lines others status other_status a b =
+        let h = same_refused fault out other status other_status a.0 b.0 in
+        (h.0, a.1 ∙ sym b.1, h.1)
 
-      pub one_weaving : OneWeaving
-      one_weaving seed limit bytes out other lines others status other_status a b = same_records seed limit bytes out other lines others status other_status a.0 b.0 a.1 b.1 a.2 b.2
+    pub one_weaving : OneScenario → ScenarioOrFault → OneFault → OneWeaving
+    one_weaving one_scenario scenario_or_fault one_fault seed limit bytes out other lines others status other_status (read, reads, a) (next, rest, b) =
+        let same = one_reading one_scenario scenario_or_fault one_fault bytes read next reads rest in
+        same_told seed limit next out other lines others status other_status (subst (λ (r : Result Scenario ScenarioFault). RecordsOn (IsBySeed seed limit) r out lines status) same a) b
 
 -- ---- the schedule
 

@@ -1,25 +1,16 @@
 -- What `play` and what it calls return and write: the contracts in `run` cite it.
 use Rattle.std.specs.Prelude.{◌≡◌, ℕ, List, Bool, Option, Some, None, length}
 use Rattle.jc_rules.specs.declared.operation.Event.{Event}
-use Rattle.jc_rules.specs.Trace.{Rows}
 use Rattle.jc_printer.specs.Canon.{AreNamed}
 use Rattle.jc_network.specs.declared.fault.Stuck.{Stuck as StuckEvent}
-use Rattle.jc_network.specs.NetworkHistory.{NetworkHistory, StepsTo}
-use Rattle.jc_network.specs.Steps.{IsStuckFor, stuck_for}
+use Rattle.jc_network.specs.NetworkHistory.{NetworkHistory}
+use Rattle.jc_network.specs.Steps.{stuck_for}
 use Rattle.jc_out.specs.Out.{OutState, AddsText}
-use Rattle.jc_program.specs.Texts.{event_text}
 use Rattle.jc_program.specs.Runs.{Stuck, Plays}
 
 -- a text of this kind was added
 abbrev pub Added : (List ℕ → Type 0) → OutState → OutState → Type 0
 Added IsText old new = (text : List ℕ) × IsText text × AddsText text old new
-
--- The event was executed, and its text was added; or it is stuck, and nothing changed.
-abbrev pub PlaysNext
-    : Bool → NetworkHistory → NetworkHistory → ℕ → Event → OutState → OutState → Option StuckEvent → Type 0
-PlaysNext trace old new n event a b None =
-    (rows : Rows) × StepsTo old event new rows × AddsText (event_text trace old.names n event rows.rows) a b
-PlaysNext trace old new n event a b (Some s) = IsStuckFor old.history.now event s × (new ≡ old) × (b ≡ a)
 
 -- the stuck event, its cause, and that its replicas have names
 abbrev pub Tells : List (List ℕ) → Option StuckEvent → Option Stuck → Type 0

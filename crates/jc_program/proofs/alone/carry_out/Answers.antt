@@ -1,59 +1,92 @@
-use Rattle.std.proofs.Common.{ℕ, List, Err, refl, ap, subst}
-use Rattle.std.proofs.lemmas.Result.{IfOk-weaker, IfErr-weaker}
-use Rattle.jc_io.specs.Written.{sink, Sent}
-use Rattle.jc_program.specs.Commands.{IsDone, IsStoppedCommand}
-use Rattle.jc_program.specs.Faults.{IsCause, IsUnread}
-use Rattle.jc_program.specs.Found.{IsFound}
-use Rattle.jc_program.specs.SessionRuns.{lines_by}
-use Rattle.jc_program.specs.ViewOutput.{told_by}
-use Rattle.jc_program.specs.WorkFaults.{read_fault}
-use Rattle.jc_program.specs.declared.fault.WorkFault.{WorkFault}
-use Rattle.jc_program.proofs.FoundLemmas.{passed_on, read_cause, unread}
-use Rattle.jc_program.proofs.ThreadRunsLemmas.{cause_of}
+use Rattle.std.proofs.Common.{◌≢◌, Err, refl, ap}
+use Rattle.std.proofs.lemmas.Result.{IfErr-at_err, IfOk-weaker, IfErr-weaker, on_ok_weaker}
+use Rattle.jc_scenario.specs.Views.{scenario_view}
+use Rattle.jc_io.specs.Written.{sink}
+use Rattle.jc_program.specs.WeaveRuns.{IsBySeed, HaveNoThreads}
+use Rattle.jc_runner.specs.declared.starting.SpawnRefused.{SpawnRefused}
+use Rattle.jc_program.specs.declared.recording.RecordFault.{RecordFault}
+use Rattle.jc_program.specs.declared.recording.RecordFault.TheVariants.{NoThread as WantOfThread}
+use Rattle.jc_program.proofs.FoundLemmas.{passed_on, passed_write, read_cause, unread, refused, refusal_stops, shown, show_stops, show_same, show_cause}
+use Rattle.jc_program.proofs.ThreadRunsLemmas.{cause_of, recording_shown, recording_stops, has_recorded, is_stopped, told_cause, told_same}
 use Rattle.jc_program.proofs.alone.carry_out.Goals as goal
 
--- the file wasn't read
+-- ---- the file wasn't read
+
 pub returns-in_err-found-clause-stopped : goal.returns-in_err-found-clause-stopped
 returns-in_err-found-clause-stopped g c =
-    let order = c.args.order.now in
-    let told = told_by (g.I.Source.left c.args.input.now) (g.R.Files.texts c.args.rt.now) order.file in
-    let lines = lines_by (g.I.Source.left c.args.input.now) order.file in
-    let left = lines_by (g.I.Source.left c.scenario_in.new.input) order.file in
-    let out = sink g.K.Sink c.args.out.now in
-    let why = c.in_err-found.field-0.0 in
-    passed_on c.from_residual.result (read_fault why) (λ (fault : WorkFault). IsStoppedCommand order.task fault told lines left out out) c.from_residual.ensures.1
-    (unread order.task told lines left out out why c.requires.alone (c.in_default.not-Debug, c.in_default-task.not-Serve) refl)
+    passed_on _ _ _ c.from_residual.ensures.1 (unread c.args.order.now.task _ _ _ _ _ c.in_err-found.field-0.0 c.requires.alone (c.in_default.not-Debug, c.in_default-task.not-Serve) refl)
 
 pub returns-in_err-found-clause-cause : goal.returns-in_err-found-clause-cause
 returns-in_err-found-clause-cause g c =
-    let unread_of = IsUnread (g.R.Files.may_fail c.args.rt.now) in
-    let a = g.I.Source.failures c.args.input.now in
-    let b = g.I.Source.failures c.scenario_in.new.input in
-    let n = g.K.Sink.failures c.args.out.now in
-    let why = c.in_err-found.field-0.0 in
-    passed_on c.from_residual.result (read_fault why) (λ (fault : WorkFault). IsCause fault (unread_of c.args.order.now.file) a b n n) c.from_residual.ensures.1
-    (subst (λ (file : List ℕ). IsCause (read_fault why) (unread_of file) a b n n) c.as_str-file.ensures (read_cause why (unread_of c.as_str-file.result.now) a b n (λ e. c.in_err-found.ensures.memory (ap Err e)) (λ e. c.in_err-found.ensures.failed (ap Err e))))
+    passed_on _ _ _ c.from_residual.ensures.1
+    (rw (← c.as_str-file.ensures) (read_cause c.in_err-found.field-0.0 _ _ _ _ (λ e. c.in_err-found.ensures.memory (ap Err e)) (λ e. c.in_err-found.ensures.failed (ap Err e))))
 
--- the task was executed on it
-pub returns-clause-done : goal.returns-clause-done
-returns-clause-done g c =
-    let order = c.args.order.now in
-    let texts = g.R.Files.texts c.args.rt.now in
-    let input = g.I.Source.left c.args.input.now in
-    let found = subst (λ (file : List ℕ). IsFound (told_by input texts file) c.in_ok-found.found) c.as_str-file.ensures c.in_ok-found.ensures.found in
-    IfOk-weaker c.execute.result _ (λ (status : ℕ). IsDone order.task (told_by input texts order.file) (lines_by input order.file) (sink g.K.Sink c.args.out.now) (sink g.K.Sink c.execute.new.out) (λ text. Sent text (sink g.E.Sink c.args.err.now) (sink g.E.Sink c.execute.new.err)) status)
-    (λ status h. h (told_by input texts order.file) (lines_by input order.file) found) c.execute.ensures.done
+-- ---- its text was refused
 
-pub returns-clause-stopped : goal.returns-clause-stopped
-returns-clause-stopped g c =
-    let order = c.args.order.now in
-    let texts = g.R.Files.texts c.args.rt.now in
-    let input = g.I.Source.left c.args.input.now in
-    let left = lines_by (g.I.Source.left c.scenario_in.new.input) order.file in
-    let found = subst (λ (file : List ℕ). IsFound (told_by input texts file) c.in_ok-found.found) c.as_str-file.ensures c.in_ok-found.ensures.found in
-    IfErr-weaker c.execute.result _ (λ (fault : WorkFault). IsStoppedCommand order.task fault (told_by input texts order.file) (lines_by input order.file) left (sink g.K.Sink c.args.out.now) (sink g.K.Sink c.execute.new.out))
-    (λ fault h. h (told_by input texts order.file) (lines_by input order.file) left found) c.execute.ensures.stopped
+pub returns-in_err-send-in-Err-clause-stopped : goal.returns-in_err-send-in-Err-clause-stopped
+returns-in_err-send-in-Err-clause-stopped g c =
+    let broke = c.in_err-send-in-Err.ensures.err in
+    let found = rw (c.as_str-file.ensures, c.in-Err.is) at c.in_ok-found.ensures.found in
+    passed_write _ _ _ broke.0 c.from_residual-in_err-send-in-Err.ensures.1
+    (refusal_stops _ c.in-Err.line found _ _ c.args.order.now.task _ _ c.requires.alone (c.in_default.not-Debug, c.in_default-task.not-Serve) (rw c.as_str.ensures.value at broke.1))
 
-pub returns-clause-cause : goal.returns-clause-cause
-returns-clause-cause g c =
-    IfErr-weaker c.execute.result _ _ (λ fault h. cause_of fault (IsUnread (g.R.Files.may_fail c.args.rt.now) c.args.order.now.file) (g.I.Source.failures c.args.input.now) (g.I.Source.failures c.scenario_in.new.input) (g.K.Sink.failures c.args.out.now) (g.K.Sink.failures c.execute.new.out) c.in_ok-found.ensures.ok h) c.execute.ensures.cause
+pub returns-in_err-send-in-Err-clause-cause : goal.returns-in_err-send-in-Err-clause-cause
+returns-in_err-send-in-Err-clause-cause g c =
+    let broke = c.in_err-send-in-Err.ensures.err in
+    passed_write _ _ _ broke.0 c.from_residual-in_err-send-in-Err.ensures.1 (c.in_ok-found.ensures.ok, broke.1.1)
+
+pub returns-in-Err-clause-done : goal.returns-in-Err-clause-done
+returns-in-Err-clause-done g c =
+    let found = rw (c.as_str-file.ensures, c.in-Err.is) at c.in_ok-found.ensures.found in
+    refused _ c.in-Err.line found _ _ c.args.order.now.task _ _ _ c.requires.alone (c.in_default.not-Debug, c.in_default-task.not-Serve) refl (rw c.as_str.ensures.value at c.in_ok-send-in-Err.ensures.ok)
+
+-- ---- a view
+
+pub returns-in-Show-clause-done : goal.returns-in-Show-clause-done
+returns-in-Show-clause-done g c =
+    let found = rw (c.as_str-file.ensures, c.in-Ok.is) at c.in_ok-found.ensures.found in
+    rw c.in-Show.is (IfOk-weaker c.show.result _ _ (shown c.in-Ok.scenario (sink g.K.Sink c.args.out.now) (sink g.K.Sink c.show.new.out) c.in-Show.view _ found) c.show.ensures.ok)
+
+pub returns-in-Show-clause-stopped : goal.returns-in-Show-clause-stopped
+returns-in-Show-clause-stopped g c =
+    let found = rw (c.as_str-file.ensures, c.in-Ok.is) at c.in_ok-found.ensures.found in
+    rw c.in-Show.is (IfErr-weaker c.show.result _ _ (show_stops c.in-Ok.scenario (sink g.K.Sink c.args.out.now) (sink g.K.Sink c.show.new.out) c.in-Show.view _ found) c.show.ensures.stopped)
+
+pub returns-in-Show-clause-same : goal.returns-in-Show-clause-same
+returns-in-Show-clause-same g c =
+    on_ok_weaker c.show.result (λ same. (c.in_ok-found.ensures.ok, same))
+    (show_same c.in-Ok.scenario (sink g.K.Sink c.args.out.now) (sink g.K.Sink c.show.new.out) c.in-Show.view c.show.result c.show.ensures.ok)
+
+pub returns-in-Show-clause-cause : goal.returns-in-Show-clause-cause
+returns-in-Show-clause-cause g c =
+    IfErr-weaker c.show.result _ _
+    (λ fault h. cause_of fault _ _ _ _ _ c.in_ok-found.ensures.ok (show_cause c.in-Ok.scenario (sink g.K.Sink c.args.out.now) (sink g.K.Sink c.show.new.out) c.in-Show.view fault h)) c.show.ensures.stopped
+
+-- ---- a woven schedule
+
+pub returns-in-Weave-clause-done : goal.returns-in-Weave-clause-done
+returns-in-Weave-clause-done g c =
+    let made = IsBySeed c.in-Weave.seed c.in-Weave.limit in
+    let s = scenario_view c.in-Ok.scenario in
+    let found = rw (c.as_str-file.ensures, c.in-Ok.is) at c.in_ok-found.ensures.found in
+    rw c.in-Weave.is (IfOk-weaker c.tell.result _ _ (has_recorded made s (sink g.K.Sink c.args.out.now) (sink g.K.Sink c.tell.new.out) (sink g.E.Sink c.args.err.now) (sink g.E.Sink c.tell.new.err) _ found)
+    (recording_shown made s _ _ _ _ c.weave_text.result c.tell.result c.weave_text.ensures.woven c.weave_text.ensures.fault c.tell.ensures.told))
+
+pub returns-in-Weave-clause-stopped : goal.returns-in-Weave-clause-stopped
+returns-in-Weave-clause-stopped g c =
+    let made = IsBySeed c.in-Weave.seed c.in-Weave.limit in
+    let s = scenario_view c.in-Ok.scenario in
+    let found = rw (c.as_str-file.ensures, c.in-Ok.is) at c.in_ok-found.ensures.found in
+    let alone = c.weave_text.ensures.alone in
+    rw c.in-Weave.is (IfErr-weaker c.tell.result _ _ (is_stopped made s _ _ (sink g.E.Sink c.args.err.now) (sink g.E.Sink c.tell.new.err) _ found HaveNoThreads)
+    (recording_stops made s _ _ _ _ ⊥ c.weave_text.result c.tell.result (λ refused is. IfErr-at_err (λ (fault : RecordFault). (q : SpawnRefused) → fault ≢ WantOfThread q) is alone refused refl) c.weave_text.ensures.woven c.weave_text.ensures.fault c.tell.ensures.told))
+
+pub returns-in-Weave-clause-same : goal.returns-in-Weave-clause-same
+returns-in-Weave-clause-same g c =
+    on_ok_weaker c.tell.result (λ same. (c.in_ok-found.ensures.ok, same))
+    (told_same c.weave_text.result c.tell.result (sink g.K.Sink c.args.out.now) (sink g.K.Sink c.tell.new.out) (sink g.E.Sink c.args.err.now) (sink g.E.Sink c.tell.new.err) c.tell.ensures.told)
+
+pub returns-in-Weave-clause-cause : goal.returns-in-Weave-clause-cause
+returns-in-Weave-clause-cause g c =
+    IfErr-weaker c.tell.result _ _ (λ fault h. cause_of fault _ _ _ _ _ c.in_ok-found.ensures.ok h)
+    (told_cause c.weave_text.result c.tell.result (sink g.K.Sink c.args.out.now) (sink g.K.Sink c.tell.new.out) (sink g.E.Sink c.args.err.now) (sink g.E.Sink c.tell.new.err) c.tell.ensures.told)

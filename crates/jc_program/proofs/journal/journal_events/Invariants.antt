@@ -12,5 +12,5 @@ invariant-loop-event g l = record {
   steps : l.networks.net.history.earlier ≡ [];
   behind : IsBehind l.networks.behind l.networks.net.history.now;
   asked : is_some l.networks.behind ≡ is_some l.initial.networks.behind;
-  goes : LinesGoOn (asked_by l.fn.trace l.initial.networks.behind) l.fn.given l.initial.networks.net l.networks.net l.events l.event-index (output g.K.Sink l.initial.out) (output g.K.Sink l.out);
+  goes : LinesGoOn (asked_by l.fn.trace l.initial.networks.behind) l.fn.given l.initial.networks.net.names l.initial.networks.net.history.now l.networks.net.history.now l.events l.event-index (output g.K.Sink l.initial.out) (output g.K.Sink l.out);
 }

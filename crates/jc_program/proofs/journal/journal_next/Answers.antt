@@ -1,12 +1,7 @@
-use Rattle.std.proofs.Common.{Result, Err, ap, refl}
-use Rattle.jc_rules.specs.Trace.{Rows}
-use Rattle.jc_network.specs.declared.fault.StepFault.{StepFault}
+use Rattle.std.proofs.Common.{Err, ap, refl}
 use Rattle.jc_program.specs.JournalResult.{asked_by}
 use Rattle.jc_program.proofs.JournalResultLemmas.{event_made, behind_last, caught_up, stuck_named, event_stuck}
 use Rattle.jc_program.proofs.journal.journal_next.Goals as goal
-
-abbrev failed : StepFault → Result Rows StepFault
-failed fault = Err fault
 
 -- the event was made
 pub returns-in_ok-catch_up-in-Ok-clause-ok : goal.returns-in_ok-catch_up-in-Ok-clause-ok
@@ -25,8 +20,8 @@ returns-in_ok-catch_up-in-Ok-clause-behind c =
 -- it is stuck
 pub stuck_line-requires : goal.stuck_line-requires
 stuck_line-requires c =
-    stuck_named (asked_by c.args.trace c.args.networks.now.behind) c.args.networks.now.net c.step.new.self c.args.numbered.now c.in-Err-Stuck.stuck (c.in-Err-Stuck.ensures.stuck c.in-Err-Stuck.stuck (ap failed c.in-Err-Stuck.field-0-is)) c.in-Err-Stuck.ensures.kept c.requires.named
+    stuck_named (asked_by c.args.trace c.args.networks.now.behind) c.args.networks.now.net c.step.new.self c.args.numbered.now c.in-Err-Stuck.stuck (c.in-Err-Stuck.ensures.stuck c.in-Err-Stuck.stuck (ap Err c.in-Err-Stuck.field-0-is)) c.in-Err-Stuck.ensures.kept c.requires.named
 
 pub returns-in_ok-line-in-Err-Stuck-clause-ok : goal.returns-in_ok-line-in-Err-Stuck-clause-ok
 returns-in_ok-line-in-Err-Stuck-clause-ok c =
-    event_stuck (asked_by c.args.trace c.args.networks.now.behind) c.args.networks.now.net c.step.new.self c.args.numbered.now c.in-Err-Stuck.stuck (c.in-Err-Stuck.ensures.stuck c.in-Err-Stuck.stuck (ap failed c.in-Err-Stuck.field-0-is)) c.in-Err-Stuck.ensures.kept c.in_ok-line-in-Err-Stuck.line.items c.in_ok-line-in-Err-Stuck.ensures
+    event_stuck (asked_by c.args.trace c.args.networks.now.behind) c.args.networks.now.net c.step.new.self c.args.numbered.now c.in-Err-Stuck.stuck (c.in-Err-Stuck.ensures.stuck c.in-Err-Stuck.stuck (ap Err c.in-Err-Stuck.field-0-is)) c.in-Err-Stuck.ensures.kept c.in_ok-line-in-Err-Stuck.line.items c.in_ok-line-in-Err-Stuck.ensures

@@ -5,27 +5,14 @@ use Rattle.jc_program.proofs.RunOutLemmas.{on_err}
 use Rattle.jc_program.proofs.run.add_lines.Goals as goal
 
 pub returns-then-is_broken-clause-halted : goal.returns-then-is_broken-clause-halted
-returns-then-is_broken-clause-halted g c =
-    let n = ap length c.names.ensures.names in
-    let each = c.names.ensures.each in
-    let few = c.names.ensures.few in
-    let l : c.loop-p.p < length c.args.net.now.history.now.states = omega (arith, n, each, few, c.loop-p-test.true) in
-    (c.loop-p.p, l, c.loop-p.invariant.added)
+returns-then-is_broken-clause-halted g c = (c.loop-p.p, omega (arith, ap length c.names.ensures.names, c.names.ensures, c.loop-p-test.true), c.loop-p.invariant)
 
 pub returns-in_err-line-clause-halted : goal.returns-in_err-line-clause-halted
 returns-in_err-line-clause-halted g c =
-    let n = ap length c.names.ensures.names in
-    let each = c.names.ensures.each in
-    let few = c.names.ensures.few in
-    let l : c.loop-p.p < length c.args.net.now.history.now.states = omega (arith, n, each, few, c.loop-p-test.true) in
-    on_err _ c.from_residual.result (c.loop-p.p, l, c.loop-p.invariant.added)
+    on_err _ c.from_residual.result (c.loop-p.p, omega (arith, ap length c.names.ensures.names, c.names.ensures, c.loop-p-test.true), c.loop-p.invariant)
 
 pub loop-p-preserved : goal.loop-p-preserved
 loop-p-preserved g c =
-    let n = ap length c.names.ensures.names in
-    let each = c.names.ensures.each in
-    let few = c.names.ensures.few in
-    let l : c.loop-p.p < length c.args.net.now.history.now.states = omega (arith, n, each, few, c.loop-p-test.true) in
-    record {
-      added = lines_go_on c.args.lines c.args.net.now.names c.args.net.now.history.now.states c.loop-p.p (output g.K.Sink c.args.out.now) (output g.K.Sink c.loop-p.out) (output g.K.Sink c.pass.new.self) l c.loop-p.invariant.added c.as_slice.result.now (λ A there. c.as_slice.ensures.value ∙ c.in_ok-line.ensures A there) c.pass.ensures;
-    }
+    let inside : c.loop-p.p < length c.args.net.now.history.now.states = omega (arith, ap length c.names.ensures.names, c.names.ensures, c.loop-p-test.true) in
+    lines_go_on c.args.lines c.args.net.now.names c.args.net.now.history.now.states c.loop-p.p (output g.K.Sink c.args.out.now) (output g.K.Sink c.loop-p.out) (output g.K.Sink c.pass.new.self) inside c.loop-p.invariant
+    c.as_slice.result.now (λ A there. c.as_slice.ensures.value ∙ c.in_ok-line.ensures A there) c.pass.ensures
