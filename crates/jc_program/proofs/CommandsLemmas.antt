@@ -1,5 +1,5 @@
 -- About Commands: commands that came to their end, and their statuses. For PromiseLemmas.
-use Rattle.std.proofs.Common.{◌≡◌, ℕ, inl, inr, List, [], Bool, true, false, if◌then◌else◌, Option, Some, None, Ok, Err, refl, sym, subst}
+use Rattle.std.proofs.Common.{◌≡◌, ℕ, inl, inr, List, [], Bool, true, if◌then◌else◌, Option, Some, None, Ok, Err, refl, sym, subst, arith}
 use Rattle.std.proofs.lemmas.Option.{same_Some}
 use Rattle.jc_cli.specs.declared.order.Task.{Task}
 use Rattle.jc_cli.specs.declared.order.Task.TheVariants.{Show, Debug, Serve, Threads, Weave}
@@ -36,8 +36,7 @@ nothing_done (Weave seed limit) told lines old new same = recording_unread (IsBy
 
 module _ (bytes : List ℕ) where
   within_ends : (inside : Bool) (end : End) → end ≡ (if inside then S.finished else S.too_many) → end ≡ S.given_stuck → ⊥
-  within_ends true end is e = cc
-  within_ends false end is e = cc
+  within_ends inside end is e = grind arith
 
   lines_end : (lines due : List Line) (end due_end : End) → S.Ends lines end due due_end → (due_end ≡ S.given_stuck → ⊥) → end ≡ S.given_stuck → ⊥
   lines_end lines due end due_end S.at_the_end none e = none e

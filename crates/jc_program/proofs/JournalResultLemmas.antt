@@ -45,8 +45,7 @@ module _ (asked : Asked) (old new : NetworkHistory) (behind : Option NetworkHist
 
 -- what is told of effects, by a reference to them
 told_at : (r : Option (Bor Effects)) → differences_at r ≡ differences_in (option_copied r)
-told_at None = refl
-told_at (Some r) = refl
+told_at r = grind arith
 
 -- what differs from the network behind is what the event changed
 pub told_some : (c : NetworkHistory) (e : Event) (new : Network) (x : Option Differences) → ((rows : List (Rule × ℕ)) → (made : StepIn c.history.now e new rows) → AreEffects true e made.step.before made.step.after x)

@@ -1,5 +1,5 @@
 -- About Journals (Journaled): the journal of a scenario, whole or up to a halt. `add_journal` uses it.
-use Rattle.std.proofs.Common.{◌≡◌, ℕ, List, [], ◌++◌, is_some, Bool, Option, Some, None, true, false, if◌then◌else◌, inl, inr, refl, ◌∙◌, ap, subst}
+use Rattle.std.proofs.Common.{◌≡◌, ℕ, List, [], ◌++◌, is_some, Bool, Option, Some, None, true, false, if◌then◌else◌, inl, inr, refl, ◌∙◌, ap, subst, arith}
 use Rattle.jc_rules.specs.declared.operation.Event.{Event}
 use Rattle.jc_rules.specs.Step.{Network}
 use Rattle.jc_scenario.specs.WellFormed.{Scenario}
@@ -21,8 +21,7 @@ nothing_journaled asked s o = ([], inl refl, adds_nothing o o refl)
 
 -- the status for a stuck event, and for none
 status_told : (stuck : Option Stuck) → status_of stuck ≡ (if is_some stuck then 3 else 0)
-status_told None = refl
-status_told (Some x) = refl
+status_told stuck = grind arith
 
 -- ---- the given events
 

@@ -1,5 +1,5 @@
 -- About SessionRuns: a session on the bytes that were read is one on the whole. `debug` uses it.
-use Rattle.std.proofs.Common.{◌≡◌, ◌≢◌, ◌⊎◌, ◌∙◌, ℕ, inl, inr, List, [], take, Bool, true, false, Option, Some, None, Err, Ok, codes, if◌then◌else◌, refl, ap, sym}
+use Rattle.std.proofs.Common.{arith, ◌≡◌, ◌≢◌, ◌⊎◌, ◌∙◌, ℕ, inl, inr, List, [], take, Bool, true, false, Option, Some, None, Err, Ok, codes, if◌then◌else◌, refl, ap, sym}
 use Rattle.std.specs.Str.{bytes_eq}
 use Rattle.std.proofs.lemmas.Slice.Eq.{bytes_eq-Decides}
 use Rattle.jc_io.specs.Streams.{IsPrefixUpTo}
@@ -26,13 +26,9 @@ lines_at is_dash input name e = ap (λ (b : Bool). if b then Some [] else input)
 pub no_dash : (name : List ℕ) → bytes_eq name (codes "-") ≡ false → name ≢ codes "-"
 no_dash name e is = let bad : false ≡ true = sym e ∙ (bytes_eq-Decides name (codes "-")).1 is in cc
 
-lines_stay_by : (b : Bool) (new old : Option (List ℕ)) (name : List ℕ) → bytes_eq name (codes "-") ≡ b → (name ≢ codes "-" → new ≡ old) → lines_by new name ≡ lines_by old name
-lines_stay_by true new old name e h = lines_at true new name e ∙ sym (lines_at true old name e)
-lines_stay_by false new old name e h = lines_at false new name e ∙ (h (no_dash name e) ∙ sym (lines_at false old name e))
-
 -- the lines stay where the input does
 pub lines_stay : (new old : Option (List ℕ)) (name : List ℕ) → (name ≢ codes "-" → new ≡ old) → lines_by new name ≡ lines_by old name
-lines_stay new old name h = lines_stay_by (bytes_eq name (codes "-")) new old name refl h
+lines_stay new old name h = grind (arith, bytes_eq-Decides)
 
 -- ---- a prefix of the scenario's bytes, one byte longer than the longest scenario
 

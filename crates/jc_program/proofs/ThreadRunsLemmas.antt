@@ -30,8 +30,7 @@ module _ (IsMade : Scenario → Recording → Type 0) (s : Scenario) (old new ol
       (string_bytes r.lines, (string_bytes r.text, inl (subst (AreRecordingTexts (IsMade s) (string_bytes r.text) (string_bytes r.lines)) (sym ends) (ran r is)), wrote), sent)
   recording_shown (Err (F.Given lines)) (Ok status) is fault (ends, wrote, quiet) =
       ([], (string_bytes lines, inr (subst (IsGivenShown s (string_bytes lines)) (sym ends) fault, refl), wrote), inl (wrote_none old_err new_err quiet))
-  recording_shown (Err F.Memory) (Ok status) is fault (e, same) = absurd cc
-  recording_shown (Err (F.NoThread refused)) (Ok status) is fault (e, same) = absurd cc
+  recording_shown (Err _) (Ok status) is fault h = absurd cc
 
   abbrev pub Stops : Type 0 → WorkFault → Type 0
   Stops HasThreads fault = StopsRecording HasThreads (ShowsRecording IsMade s) fault old new
@@ -60,8 +59,7 @@ pub told_same : (recorded : Result Recording RecordFault) (result : Result ℕ W
 told_same recorded (Err f) old new old_err new_err h = tt
 told_same (Ok r) (Ok status) old new old_err new_err (ends, wrote, sent) = wrote.1
 told_same (Err (F.Given lines)) (Ok status) old new old_err new_err (ends, wrote, quiet) = wrote.1
-told_same (Err F.Memory) (Ok status) old new old_err new_err (e, same) = absurd cc
-told_same (Err (F.NoThread refused)) (Ok status) old new old_err new_err (e, same) = absurd cc
+told_same (Err _) (Ok status) old new old_err new_err h = absurd cc
 
 -- and which at a fault
 pub told_cause : (recorded : Result Recording RecordFault) (result : Result ℕ WorkFault) (old new old_err new_err : Stream) → IsTold recorded result old new old_err new_err → IfErr result (λ fault. (n : ℕ) → IsCause fault ⊥ n n old.failures new.failures)
